@@ -10,7 +10,7 @@
  * count says; an array that a call writes overlaps no other, given or written; there is stack left. No array changes
  * during a call, by another thread or by a process that shares it. A call that takes memory is not made from a signal
  * handler, nor in a child that was forked from a process with threads. The processor is one that the library is built
- * for: on x86-64 by default x86-64-v2, which has SSE4.2.
+ * for: that of a release runs on any, and by default `make c` builds for x86-64-v2, which has SSE4.2.
  *
  * A contour is an array of points, read as a cycle: the last point isn't the first one again. A point is safe where
  * both coordinates lie strictly between -2^(W-2) and 2^(W-2), and W is 16, 32 or 64. */
@@ -185,6 +185,48 @@ int32_t i_shape_contains_points_i32(const i_shape_point_i32 *points, size_t coun
  * where the rule fills the point, and -1 where it doesn't. What it returns, and when, is as of i_shape_windings_i32. */
 int32_t i_shape_locate_i32(const i_shape_point_i32 *points, size_t count, const size_t *offsets, size_t offset_count, const i_shape_point_i32 *about, size_t about_count, int32_t rule, int8_t *out, size_t room);
 
+/* Contacts. An edge leads from each point to the next one, the last edge of a contour to its first point. Two edges are
+ * in contact if they share a point other than one at which one of them follows the other: they cross, touch or overlap.
+ * These calls take memory if there are 16 or more points. If that allocation fails, they return the same, and take
+ * longer. */
+
+/* At least three points, not all equal, and no contact: the contour is the boundary of a simple polygon. It returns 1 or
+ * 0, or I_SHAPE_UNSAFE. */
+int32_t i_shape_is_simple_polygon_i32(const i_shape_point_i32 *points, size_t count);
+/* The first contact: of the first edge that is in contact with a later one, and the first such one. It returns 1, and
+ * writes to the front of out the places of the two points from which these edges lead, the lesser first; or 0, if there
+ * is no contact. I_SHAPE_NO_ROOM: room is below 2. I_SHAPE_UNSAFE: a point isn't safe. After 0 or a code, and behind
+ * these places, out is as it was. */
+int32_t i_shape_first_contact_i32(const i_shape_point_i32 *points, size_t count, size_t *out, size_t room);
+/* The same of many contours together, divided as above: within one of them, or between two. The places are those in
+ * points. I_SHAPE_BAD_OFFSETS: the offsets are wrong as above. I_SHAPE_UNSAFE: a point from the first offset to the last
+ * isn't safe. If the first offset isn't 0, the offsets are copied; I_SHAPE_NO_MEMORY: that allocation failed. */
+int32_t i_shape_first_contact_of_rings_i32(const i_shape_point_i32 *points, size_t count, const size_t *offsets, size_t offset_count, size_t *out, size_t room);
+
+/* Validity of many polygons, divided as for i_shape_simplify_shapes_i32. A polygon is valid if each contour has at least
+ * three points, not all equal, no two edges are in contact, and each vertex of a hole lies inside the outer contour and
+ * inside no other hole: about it, the winding number of the outer contour isn't 0, and that of each other hole is 0.
+ * Contours run in either direction; a polygon without contours is valid. Faults come in the order of their kinds, those
+ * of a kind by place. Unlike by OGC's rules, rings may not touch at a point. */
+
+/* The first fault of a polygon, or I_SHAPE_VALID, in kind. Contours and points are named by their indices in all
+ * contours and in points; first and second are 0 where the kind doesn't use them. */
+typedef struct { size_t kind, first, second; } i_shape_fault;
+enum {
+    I_SHAPE_VALID = 0,        /* no fault */
+    I_SHAPE_COLLAPSED = 1,    /* first: a contour with fewer than three points, or with all points equal */
+    I_SHAPE_CONTACT = 2,      /* first, second: the points from which two edges in contact lead, the lesser index first */
+    I_SHAPE_HOLE_OUTSIDE = 3, /* first: a hole with a vertex about which the outer contour doesn't wind */
+    I_SHAPE_HOLE_WITHIN = 4   /* first: a hole with a vertex about which another hole winds; second: that hole */
+};
+
+/* The first fault of each polygon, into out. It returns 0. I_SHAPE_BAD_OFFSETS: contours[] or shapes[] are wrong as
+ * above. I_SHAPE_NO_ROOM: room, in faults, is below the number of polygons. I_SHAPE_UNSAFE: a point from the first
+ * offset to the last isn't safe. I_SHAPE_NO_MEMORY: there is a polygon, and the copy of the offsets of that with the
+ * most contours failed; if another allocation fails, the faults are the same. After a code, and behind a fault for each
+ * polygon, out is as it was. */
+int32_t i_shape_validity_shapes_i32(const i_shape_point_i32 *points, size_t count, const size_t *contours, size_t contour_offset_count, const size_t *shapes, size_t shape_offset_count, i_shape_fault *out, size_t room);
+
 /* Twice the signed area, positive for a counterclockwise contour; false, and *area as it was, if there is no point. No
  * safe range is asked: a sum that doesn't fit wraps. It takes no memory. At 16 bits the area has 32, at 64 bits it is
  * the halves of 128. */
@@ -194,7 +236,8 @@ bool i_shape_area_two_i32(const i_shape_point_i32 *points, size_t count, int64_t
  * of them, so that m contours, which have offset_count = m + 1, have m items. These return 0. I_SHAPE_BAD_OFFSETS: the
  * offsets are wrong as above. I_SHAPE_NO_ROOM: room is below m. I_SHAPE_UNSAFE: a point from the first offset to the
  * last isn't safe; the last two never return it. After a code, and behind m items, out is as it was. They take no
- * memory. */
+ * memory, except i_shape_are_simple_polygons_iW, of a contour of 16 or more points; if that allocation fails, its items
+ * are the same. */
 
 /* Each item is what i_shape_is_simple_i32 returns, 1 or 0. */
 int32_t i_shape_is_simple_contours_i32(const i_shape_point_i32 *points, size_t count, const size_t *offsets, size_t offset_count, uint8_t *out, size_t room);
@@ -202,6 +245,8 @@ int32_t i_shape_is_simple_contours_i32(const i_shape_point_i32 *points, size_t c
 int32_t i_shape_has_no_spikes_contours_i32(const i_shape_point_i32 *points, size_t count, const size_t *offsets, size_t offset_count, uint8_t *out, size_t room);
 /* Each item is what i_shape_is_convex_i32 returns. */
 int32_t i_shape_is_convex_contours_i32(const i_shape_point_i32 *points, size_t count, const size_t *offsets, size_t offset_count, uint8_t *out, size_t room);
+/* Each item is what i_shape_is_simple_polygon_i32 returns. */
+int32_t i_shape_are_simple_polygons_i32(const i_shape_point_i32 *points, size_t count, const size_t *offsets, size_t offset_count, uint8_t *out, size_t room);
 /* Each item is what i_shape_is_safe_i32 returns. */
 int32_t i_shape_is_safe_contours_i32(const i_shape_point_i32 *points, size_t count, const size_t *offsets, size_t offset_count, uint8_t *out, size_t room);
 /* Each item is the area of i_shape_area_two_i32, and 0 where there is no point. */
@@ -231,10 +276,15 @@ int32_t i_shape_windings_i16(const i_shape_point_i16 *points, size_t count, cons
 int32_t i_shape_contains_by_i16(const i_shape_point_i16 *points, size_t count, int16_t x, int16_t y, int32_t rule);
 int32_t i_shape_contains_points_i16(const i_shape_point_i16 *points, size_t count, const size_t *offsets, size_t offset_count, const i_shape_point_i16 *about, size_t about_count, int32_t rule, uint8_t *out, size_t room);
 int32_t i_shape_locate_i16(const i_shape_point_i16 *points, size_t count, const size_t *offsets, size_t offset_count, const i_shape_point_i16 *about, size_t about_count, int32_t rule, int8_t *out, size_t room);
+int32_t i_shape_is_simple_polygon_i16(const i_shape_point_i16 *points, size_t count);
+int32_t i_shape_first_contact_i16(const i_shape_point_i16 *points, size_t count, size_t *out, size_t room);
+int32_t i_shape_first_contact_of_rings_i16(const i_shape_point_i16 *points, size_t count, const size_t *offsets, size_t offset_count, size_t *out, size_t room);
+int32_t i_shape_validity_shapes_i16(const i_shape_point_i16 *points, size_t count, const size_t *contours, size_t contour_offset_count, const size_t *shapes, size_t shape_offset_count, i_shape_fault *out, size_t room);
 bool i_shape_area_two_i16(const i_shape_point_i16 *points, size_t count, int32_t *area);
 int32_t i_shape_is_simple_contours_i16(const i_shape_point_i16 *points, size_t count, const size_t *offsets, size_t offset_count, uint8_t *out, size_t room);
 int32_t i_shape_has_no_spikes_contours_i16(const i_shape_point_i16 *points, size_t count, const size_t *offsets, size_t offset_count, uint8_t *out, size_t room);
 int32_t i_shape_is_convex_contours_i16(const i_shape_point_i16 *points, size_t count, const size_t *offsets, size_t offset_count, uint8_t *out, size_t room);
+int32_t i_shape_are_simple_polygons_i16(const i_shape_point_i16 *points, size_t count, const size_t *offsets, size_t offset_count, uint8_t *out, size_t room);
 int32_t i_shape_is_safe_contours_i16(const i_shape_point_i16 *points, size_t count, const size_t *offsets, size_t offset_count, uint8_t *out, size_t room);
 int32_t i_shape_area_two_contours_i16(const i_shape_point_i16 *points, size_t count, const size_t *offsets, size_t offset_count, int32_t *areas, size_t room);
 
@@ -262,10 +312,15 @@ int32_t i_shape_windings_i64(const i_shape_point_i64 *points, size_t count, cons
 int32_t i_shape_contains_by_i64(const i_shape_point_i64 *points, size_t count, int64_t x, int64_t y, int32_t rule);
 int32_t i_shape_contains_points_i64(const i_shape_point_i64 *points, size_t count, const size_t *offsets, size_t offset_count, const i_shape_point_i64 *about, size_t about_count, int32_t rule, uint8_t *out, size_t room);
 int32_t i_shape_locate_i64(const i_shape_point_i64 *points, size_t count, const size_t *offsets, size_t offset_count, const i_shape_point_i64 *about, size_t about_count, int32_t rule, int8_t *out, size_t room);
+int32_t i_shape_is_simple_polygon_i64(const i_shape_point_i64 *points, size_t count);
+int32_t i_shape_first_contact_i64(const i_shape_point_i64 *points, size_t count, size_t *out, size_t room);
+int32_t i_shape_first_contact_of_rings_i64(const i_shape_point_i64 *points, size_t count, const size_t *offsets, size_t offset_count, size_t *out, size_t room);
+int32_t i_shape_validity_shapes_i64(const i_shape_point_i64 *points, size_t count, const size_t *contours, size_t contour_offset_count, const size_t *shapes, size_t shape_offset_count, i_shape_fault *out, size_t room);
 bool i_shape_area_two_i64(const i_shape_point_i64 *points, size_t count, i_shape_halves *area);
 int32_t i_shape_is_simple_contours_i64(const i_shape_point_i64 *points, size_t count, const size_t *offsets, size_t offset_count, uint8_t *out, size_t room);
 int32_t i_shape_has_no_spikes_contours_i64(const i_shape_point_i64 *points, size_t count, const size_t *offsets, size_t offset_count, uint8_t *out, size_t room);
 int32_t i_shape_is_convex_contours_i64(const i_shape_point_i64 *points, size_t count, const size_t *offsets, size_t offset_count, uint8_t *out, size_t room);
+int32_t i_shape_are_simple_polygons_i64(const i_shape_point_i64 *points, size_t count, const size_t *offsets, size_t offset_count, uint8_t *out, size_t room);
 int32_t i_shape_is_safe_contours_i64(const i_shape_point_i64 *points, size_t count, const size_t *offsets, size_t offset_count, uint8_t *out, size_t room);
 int32_t i_shape_area_two_contours_i64(const i_shape_point_i64 *points, size_t count, const size_t *offsets, size_t offset_count, i_shape_halves *areas, size_t room);
 

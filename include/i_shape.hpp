@@ -1,6 +1,7 @@
 /* The calls of i_shape.h for C++17, for points of any type that is two signed integers of one type. These are templates
- * over libi_shape.a or libi_shape.so. Each call but flat and nested makes the C call of its name, less _into, which
- * i_shape.h describes; remove_spikes makes despike_shapes, and contains makes contains_by. docs/CPP.md has samples.
+ * over libi_shape.a or libi_shape.so. Each call but flat, nested and chunks makes the C call of its name, less _into, which
+ * i_shape.h describes; remove_spikes makes despike_shapes, contains makes contains_by, and validity makes
+ * validity_shapes. docs/CPP.md has samples.
  *
  * These take points and offsets from whatever std::data and std::size take: a vector, an array, or a pointer and a count
  * as i_shape::Span. Offsets are of any unsigned type; those of another one than std::size_t are copied. Results of
@@ -11,6 +12,7 @@
 
 #include "i_shape.h"
 
+#include <algorithm>
 #include <cstddef>
 #include <cstdint>
 #include <cstdio>
@@ -44,6 +46,12 @@ public:
         std::snprintf(what_, sizeof what_, place ? "i_shape: %s%s[%zu]" : "i_shape: %s%s", words_of(code), names[static_cast<int>(array)], place.value_or(0));
     }
 
+    /* The same with what is refused in words. */
+    Error(Code code, Array array, std::optional<std::size_t> place, std::optional<std::size_t> contour, const char *words) noexcept
+        : code_(code), array_(array), place_(place), contour_(contour) {
+        std::snprintf(what_, sizeof what_, "i_shape: %s: %s", words_of(code), words);
+    }
+
     Code code() const noexcept { return code_; }
     Array array() const noexcept { return array_; }
 
@@ -51,6 +59,10 @@ public:
      * or above the count. Nothing where the array has no item, or is too short. */
     std::optional<std::size_t> place() const noexcept { return place_; }
 
+    /* The contour that has that point. Nothing of a call on one contour, and of a point that is asked about. */
+    std::optional<std::size_t> contour() const noexcept { return contour_; }
+
+    /* The same in words, with the value that is refused and its bound. */
     const char *what() const noexcept override { return what_; }
 
 private:
@@ -67,7 +79,8 @@ private:
     Code code_;
     Array array_;
     std::optional<std::size_t> place_;
-    char what_[128];
+    std::optional<std::size_t> contour_;
+    char what_[288];
 };
 
 /* A pointer and a count: items that lie somewhere else. Items of a class below Item aren't taken: they may lie further
@@ -89,11 +102,26 @@ private:
     std::size_t count_;
 };
 
+namespace detail {
+
+/* Whether a type is no point, but a vector or an array of points or of such. */
+template <class Type, class = void>
+inline constexpr bool is_nested = false;
+
+template <class Type>
+inline constexpr bool is_nested<Type, std::enable_if_t<std::is_class_v<std::remove_pointer_t<decltype(std::data(std::declval<const Type &>()))>>>> = true;
+
+template <class Type>
+inline constexpr bool is_none = !std::is_same_v<Type, Type>;
+
+} // namespace detail
+
 /* The type of a point's coordinates, and where in the point they lie. It is here for points with public members x and y,
  * or X and Y; specialise it for a point of yours whose members are private or have other names. */
 template <class Point, class = void>
 struct PointTraits {
-    static_assert(!std::is_same_v<Point, Point>, "i_shape: a point has public members x and y, or X and Y, of one type, or its PointTraits");
+    static_assert(!detail::is_nested<Point>, "i_shape: nested vectors: put them end to end by i_shape::flat() for the calls on contours and shapes");
+    static_assert(detail::is_nested<Point> || detail::is_none<Point>, "i_shape: a point has public members x and y, or X and Y, of one type, or its PointTraits");
 };
 
 template <class Point>
@@ -136,6 +164,39 @@ struct Indices {
     std::vector<std::size_t> offsets;
 };
 
+/* Some of many polygons: their points where they lie, and offsets of these points. */
+template <class Point>
+struct Chunk {
+    Span<const Point> points;
+    std::vector<std::size_t> contours;
+    std::vector<std::size_t> shapes;
+};
+
+/* Two edges that are in contact, first before second, each by the place of the point from which it leads. */
+struct Contact {
+    std::size_t first;
+    std::size_t second;
+};
+
+/* The kinds of a polygon's fault, in the order in which it is tested for them. */
+enum class FaultKind : std::size_t {
+    valid = I_SHAPE_VALID,               /* no fault */
+    collapsed = I_SHAPE_COLLAPSED,       /* first: a contour with fewer than three points, or with all points equal */
+    contact = I_SHAPE_CONTACT,           /* first, second: the points from which two edges in contact lead */
+    hole_outside = I_SHAPE_HOLE_OUTSIDE, /* first: a hole with a vertex about which the outer contour doesn't wind */
+    hole_within = I_SHAPE_HOLE_WITHIN    /* first: a hole with a vertex about which another hole winds; second: that hole */
+};
+
+/* The first fault of a polygon. The places are those in the contours and points of all polygons, 0 where the kind has
+ * none. */
+struct Fault {
+    FaultKind kind;
+    std::size_t first;
+    std::size_t second;
+};
+
+static_assert(sizeof(Fault) == sizeof(i_shape_fault), "i_shape: a fault lies in memory as C's does");
+
 namespace detail {
 
 /* The calls of C for coordinates of this many bytes. */
@@ -171,10 +232,15 @@ struct Calls {
         static constexpr auto windings = i_shape_windings_i##W; \
         static constexpr auto contains_points = i_shape_contains_points_i##W; \
         static constexpr auto locate = i_shape_locate_i##W; \
+        static constexpr auto is_simple_polygon = i_shape_is_simple_polygon_i##W; \
+        static constexpr auto first_contact = i_shape_first_contact_i##W; \
+        static constexpr auto first_contact_of_rings = i_shape_first_contact_of_rings_i##W; \
+        static constexpr auto validity_shapes = i_shape_validity_shapes_i##W; \
         static constexpr auto area_two = i_shape_area_two_i##W; \
         static constexpr auto is_simple_contours = i_shape_is_simple_contours_i##W; \
         static constexpr auto has_no_spikes_contours = i_shape_has_no_spikes_contours_i##W; \
         static constexpr auto is_convex_contours = i_shape_is_convex_contours_i##W; \
+        static constexpr auto are_simple_polygons = i_shape_are_simple_polygons_i##W; \
         static constexpr auto is_safe_contours = i_shape_is_safe_contours_i##W; \
         static constexpr auto area_two_contours = i_shape_area_two_contours_i##W; \
     };
@@ -237,6 +303,14 @@ inline const std::size_t *read_offsets(Offsets offsets) noexcept {
     return address<const std::size_t>(offsets.data());
 }
 
+/* Some offsets, less the first of them. */
+inline std::vector<std::size_t> offsets_from(const std::size_t *first, const std::size_t *end) {
+    std::vector<std::size_t> less;
+    less.reserve(static_cast<std::size_t>(end - first));
+    std::transform(first, end, std::back_inserter(less), [first](std::size_t offset) { return offset - *first; });
+    return less;
+}
+
 template <class Point>
 typename CallsFor<Point>::Point as_c(const Point &point) noexcept {
     typename CallsFor<Point>::Point copy;
@@ -251,17 +325,52 @@ std::optional<std::size_t> first_unsafe(const Points &points, std::size_t first,
     return place < end ? std::optional(place) : std::nullopt;
 }
 
+/* The error of the first point from first on, and before end, that isn't safe; nothing where each is. The contour of a
+ * place is what contour_of answers. */
+template <class Points, class ContourOf>
+std::optional<Error> unsafe_point(Array array, const Points &points, std::size_t first, std::size_t end, ContourOf contour_of) noexcept {
+    const auto place = first_unsafe(points, first, end);
+    if (!place) return std::nullopt;
+    const auto point = as_c(std::data(points)[*place]);
+    const std::optional<std::size_t> contour = contour_of(*place);
+    const int bits = 8 * static_cast<int>(sizeof point.x);
+    char where[32] = "", words[224];
+    if (contour) std::snprintf(where, sizeof where, "contour %zu: ", *contour);
+    std::snprintf(words, sizeof words, "%s%s[%zu] is (%lld, %lld), and not strictly between -2^%d and 2^%d, the safe range of %d bits", where,
+                  array == Array::about ? "about" : "points", *place, static_cast<long long>(point.x), static_cast<long long>(point.y), bits - 2, bits - 2, bits);
+    return Error(Code::unsafe, array, place, contour, words);
+}
+
+inline constexpr auto no_contour = [](std::size_t) noexcept -> std::optional<std::size_t> { return std::nullopt; };
+
 /* The error of offsets that don't divide so many items; nothing where they do. */
 inline std::optional<Error> bad_offsets(Array array, Offsets offsets, std::size_t count) noexcept {
-    if (offsets.size() == 0) return Error(Code::bad_offsets, array);
+    const char *name = array == Array::shapes ? "shapes" : "offsets";
     const std::size_t place = i_shape_first_bad_offset(count, read_offsets(offsets), offsets.size());
-    return place < offsets.size() ? std::optional(Error(Code::bad_offsets, array, place)) : std::nullopt;
+    char words[128];
+    if (offsets.size() == 0) {
+        std::snprintf(words, sizeof words, "there are no %s", name);
+        return Error(Code::bad_offsets, array, std::nullopt, std::nullopt, words);
+    }
+    if (place == offsets.size()) return std::nullopt;
+    const std::size_t offset = offsets.data()[place];
+    const bool is_below = place > 0 && offset < offsets.data()[place - 1];
+    std::snprintf(words, sizeof words, "%s[%zu] is %zu, %s %zu", name, place, offset, is_below ? "below the one before it," : "above the count,",
+                  is_below ? offsets.data()[place - 1] : count);
+    return Error(Code::bad_offsets, array, place, std::nullopt, words);
+}
+
+/* The error of an array of the answer that has not so much room. */
+inline Error no_room(std::size_t room, std::size_t needed) noexcept {
+    char words[96];
+    std::snprintf(words, sizeof words, "out has room for %zu, and as many points as are given, %zu, are needed", room, needed);
+    return Error(Code::no_room, Array::out, std::nullopt, std::nullopt, words);
 }
 
 /* The error of a code of a call on a contour. */
 template <class Points>
 Error error_of(Code code, const Points &points) noexcept {
-    if (code == Code::unsafe) return Error(code, Array::points, first_unsafe(points, 0, std::size(points)));
+    if (code == Code::unsafe) return unsafe_point(Array::points, points, 0, std::size(points), no_contour).value_or(Error(code, Array::points));
     return Error(code, code == Code::no_room ? Array::out : Array::none);
 }
 
@@ -270,7 +379,9 @@ template <class Points>
 Error error_of(Code code, const Points &points, Offsets offsets) noexcept {
     if (code == Code::bad_offsets) return bad_offsets(Array::offsets, offsets, std::size(points)).value_or(Error(code));
     if (code != Code::unsafe) return error_of(code, points);
-    return Error(code, Array::points, first_unsafe(points, offsets.data()[0], offsets.data()[offsets.size() - 1]));
+    const std::size_t *begin = offsets.data(), *end = begin + offsets.size();
+    const auto contour_of = [=](std::size_t place) noexcept { return std::optional<std::size_t>(static_cast<std::size_t>(std::upper_bound(begin, end, place) - begin) - 1); };
+    return unsafe_point(Array::points, points, *begin, *(end - 1), contour_of).value_or(Error(code, Array::points));
 }
 
 /* The same of polygons. */
@@ -291,7 +402,7 @@ std::size_t count_of(std::ptrdiff_t answer, const Given &...given) {
 /* Throws where a point that is asked about isn't safe. */
 template <class About>
 void check_asked(const About &about) {
-    if (const auto place = first_unsafe(about, 0, std::size(about))) throw Error(Code::unsafe, Array::about, place);
+    if (const auto error = unsafe_point(Array::about, about, 0, std::size(about), no_contour)) throw *error;
 }
 
 /* The vector of an answer, before its points are written. */
@@ -304,7 +415,9 @@ std::vector<Point> room_for(std::size_t count) {
 template <class Points, class Call>
 std::size_t clean_into(Call call, const Points &points, Span<PointOf<Points>> out) {
     using Point = typename CallsOf<Points>::Point;
-    return count_of(call(read(points), std::size(points), address<Point>(out.data()), out.size()), points);
+    const std::ptrdiff_t answer = call(read(points), std::size(points), address<Point>(out.data()), out.size());
+    if (answer == I_SHAPE_NO_ROOM) throw no_room(out.size(), std::size(points));
+    return count_of(answer, points);
 }
 
 template <class Points, class Call>
@@ -479,6 +592,24 @@ Shapes<PointOf<Points>> canonical_unoriented_shapes(const Points &points, const 
     return detail::clean_shapes(detail::CallsOf<Points>::canonical_unoriented_shapes, points, contours, shapes);
 }
 
+/* What is said of these calls without offsets. */
+#define I_SHAPE_TAKES_OFFSETS(CALL) \
+    template <class Points> \
+    void CALL(const Points &) { \
+        static_assert(detail::is_none<Points>, "i_shape: " #CALL " takes points and offsets: i_shape::flat() makes both of nested vectors"); \
+    }
+
+I_SHAPE_TAKES_OFFSETS(simplify_contours)
+I_SHAPE_TAKES_OFFSETS(despike_contours)
+I_SHAPE_TAKES_OFFSETS(canonical_contours)
+I_SHAPE_TAKES_OFFSETS(canonical_unoriented_contours)
+I_SHAPE_TAKES_OFFSETS(simplify_shapes)
+I_SHAPE_TAKES_OFFSETS(remove_spikes)
+I_SHAPE_TAKES_OFFSETS(canonical_shapes)
+I_SHAPE_TAKES_OFFSETS(canonical_unoriented_shapes)
+
+#undef I_SHAPE_TAKES_OFFSETS
+
 /* Which polygons and contours are left after a call such as simplify_contours, which leaves contours that collapse empty:
  * a polygon is left where its outer contour has points, or where it has no contours, and a contour of it where it has
  * points. Throws Code::bad_offsets, of Array::offsets or Array::shapes. */
@@ -501,6 +632,27 @@ Indices compact_shapes(const Offsets &contours, const ShapeOffsets &shapes) {
     left.offsets.resize(count + 1);
     left.contours.resize(left.offsets.back());
     return left;
+}
+
+/* The polygons in chunks of so many, of at least one each, so that several threads clean them: a call on a chunk reads no
+ * other points. Throws Code::bad_offsets, of Array::offsets or Array::shapes. */
+template <class Points, class Offsets, class ShapeOffsets>
+std::vector<Chunk<PointOf<Points>>> chunks(const Points &points, const Offsets &contours, const ShapeOffsets &shapes, std::size_t length) {
+    const auto all_contours = detail::as_offsets(contours);
+    const auto all_shapes = detail::as_offsets(shapes);
+    const detail::Offsets of_points = all_contours, of_contours = all_shapes;
+    if (const auto error = detail::bad_offsets(Array::offsets, of_points, std::size(points))) throw *error;
+    if (const auto error = detail::bad_offsets(Array::shapes, of_contours, of_points.size() - 1)) throw *error;
+    std::vector<Chunk<PointOf<Points>>> all;
+    for (std::size_t first = 0, end; first + 1 < of_contours.size(); first = end) {
+        end = first + std::min(std::max<std::size_t>(length, 1), of_contours.size() - 1 - first);
+        const std::size_t first_contour = of_contours.data()[first], end_contour = of_contours.data()[end];
+        const std::size_t first_point = of_points.data()[first_contour];
+        all.push_back({{std::data(points) + first_point, of_points.data()[end_contour] - first_point},
+                       detail::offsets_from(of_points.data() + first_contour, of_points.data() + end_contour + 1),
+                       detail::offsets_from(of_contours.data() + first, of_contours.data() + end + 1)});
+    }
+    return all;
 }
 
 /* Tests of a contour. All but is_safe throw Code::unsafe where a point isn't safe. */
@@ -579,6 +731,50 @@ std::vector<std::int8_t> locate(const Points &points, const Offsets &offsets, co
     return detail::tell_points<std::int8_t>(detail::CallsOf<Points>::locate, points, offsets, about, static_cast<std::int32_t>(rule));
 }
 
+/* Whether a contour is the boundary of a simple polygon: at least three points, not all equal, and no contact. It throws
+ * Code::unsafe where a point isn't safe. */
+template <class Points>
+bool is_simple_polygon(const Points &points) {
+    return detail::test(detail::CallsOf<Points>::is_simple_polygon, points);
+}
+
+/* The first contact of the edges of a contour; nothing where there is none. It throws Code::unsafe where a point isn't
+ * safe. */
+template <class Points>
+std::optional<Contact> first_contact(const Points &points) {
+    std::size_t places[2];
+    if (detail::count_of(detail::CallsOf<Points>::first_contact(detail::read(points), std::size(points), places, 2), points) == 0) return std::nullopt;
+    return Contact{places[0], places[1]};
+}
+
+/* The same of many contours together, within one or between two. The places are those in points. It throws
+ * Code::bad_offsets where the offsets don't divide the points, and Code::no_memory where there is none for a copy of
+ * offsets of which the first isn't 0. */
+template <class Points, class Offsets>
+std::optional<Contact> first_contact_of_rings(const Points &points, const Offsets &offsets) {
+    const auto all = detail::as_offsets(offsets);
+    std::size_t places[2];
+    const std::int32_t answer =
+        detail::CallsOf<Points>::first_contact_of_rings(detail::read(points), std::size(points), detail::read_offsets(all), all.size(), places, 2);
+    if (detail::count_of(answer, points, detail::Offsets(all)) == 0) return std::nullopt;
+    return Contact{places[0], places[1]};
+}
+
+/* The first fault of each of many polygons, which lie as in Shapes. It throws Code::bad_offsets where the offsets don't
+ * divide the points or the contours, Code::unsafe where a point isn't safe, and Code::no_memory where there is none for
+ * a copy of the offsets of one polygon. */
+template <class Points, class GivenContours, class GivenShapes>
+std::vector<Fault> validity(const Points &points, const GivenContours &given_contours, const GivenShapes &given_shapes) {
+    const auto all_contours = detail::as_offsets(given_contours);
+    const auto all_shapes = detail::as_offsets(given_shapes);
+    const detail::Offsets contours = all_contours, shapes = all_shapes;
+    std::vector<Fault> faults(shapes.size() == 0 ? 0 : shapes.size() - 1);
+    detail::count_of(detail::CallsOf<Points>::validity_shapes(detail::read(points), std::size(points), detail::read_offsets(contours), contours.size(),
+                                                              detail::read_offsets(shapes), shapes.size(), detail::address<i_shape_fault>(faults.data()),
+                                                              faults.size()), points, contours, shapes);
+    return faults;
+}
+
 /* Twice the area of a contour, above 0 where it turns left; nothing where it has no point. A sum that doesn't fit wraps. */
 template <class Points>
 std::optional<AreaOf<Points>> area_two(const Points &points) noexcept {
@@ -604,6 +800,11 @@ std::vector<std::uint8_t> has_no_spikes_contours(const Points &points, const Off
 template <class Points, class Offsets>
 std::vector<std::uint8_t> is_convex_contours(const Points &points, const Offsets &offsets) {
     return detail::measure_contours<std::uint8_t>(detail::CallsOf<Points>::is_convex_contours, points, offsets);
+}
+
+template <class Points, class Offsets>
+std::vector<std::uint8_t> are_simple_polygons(const Points &points, const Offsets &offsets) {
+    return detail::measure_contours<std::uint8_t>(detail::CallsOf<Points>::are_simple_polygons, points, offsets);
 }
 
 template <class Points, class Offsets>

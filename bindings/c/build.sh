@@ -14,6 +14,7 @@ top=$(cd "$(dirname "$0")/../.." && pwd)
 here=$top/bindings/c
 archive=$top/crates/i_shape_c/out/libi_shape_c.a
 version=$("$top/scripts/version.sh")
+soname=libi_shape.so.$("$top/scripts/version.sh" --soname)
 only_asks='' target='' cpu='' backend=''
 while [ $# -gt 0 ]; do
     case $1 in
@@ -108,40 +109,46 @@ add_allocator() {
 }
 
 link_shared() {
-    local linker=("$kit/toolchain/bin/clang" -fuse-ld=lld) soname=libi_shape.so.${version%%.*}
+    local linker=("$kit/toolchain/bin/clang" -fuse-ld=lld)
     [ "$target" != aarch64 ] || linker=(aarch64-linux-gnu-gcc)
     echo '{ global: i_shape_*; local: *; };' > "$out/names"
     rm -f "$out"/libi_shape.so*
-    "${linker[@]}" -shared -Wl,-soname,"$soname" -Wl,--version-script,"$out/names" -o "$out/libi_shape.so.$version" "$out"/objects/*.o
+    "${linker[@]}" -shared -Wl,-soname,"$soname" -Wl,-z,relro,-z,now,--build-id=sha1,-s -Wl,--version-script,"$out/names" \
+        -o "$out/libi_shape.so.$version" "$out"/objects/*.o
+    chmod 644 "$out/libi_shape.so.$version"
     link_names
 }
 
 # The words for an installed library. They are written last, and are newer than all that they go with.
 configure() {
-    sed "s|@VERSION@|$version|" "$here/cmake/i_shape-config-version.cmake.in" > "$out/i_shape-config-version.cmake"
+    local processor=${target:-$(uname -m)}
+    case $processor in
+    x86_64 | amd64) processor='x86_64|amd64|AMD64' ;;
+    aarch64 | arm64) processor='aarch64|arm64|ARM64' ;;
+    esac
+    sed "s/@VERSION@/$version/; s/@SYSTEM@/$(uname -s)/; s/@PROCESSOR@/$processor/; s/@POINTER@/8/" "$here/cmake/i_shape-config-version.cmake.in" > "$out/i_shape-config-version.cmake"
     sed "s|@VERSION@|$version|" "$here/i_shape.pc.in" > "$out/i_shape.pc.in"
 }
 
 # The links by which programs find the shared library.
 link_names() {
-    ln -sf "libi_shape.so.$version" "$out/libi_shape.so.${version%%.*}"
-    ln -sf "libi_shape.so.${version%%.*}" "$out/libi_shape.so"
+    ln -sf "libi_shape.so.$version" "$out/$soname"
+    ln -sf "$soname" "$out/libi_shape.so"
 }
 
 build_by_cargo() {
-    local built=$top/rust/target/release
+    local built
     if ! command -v cargo > /dev/null; then
         echo 'make c: cargo from 1.85 on builds the C library, and the Rattle kit proves it: neither cargo nor rt is on the path. Once it is built, its folder' >&2
-        echo 'bindings/c/out serves without them: set I_SHAPE_C_DIR to a copy of it for `make wheel`.' >&2
+        echo 'bindings/c/out serves without them: set I_SHAPE_C_DIR to a copy of it for `make wheel` and `make postgres`.' >&2
         exit 1
     fi
     echo 'make c: there is no rt, which proves the C library; cargo builds it, of the same source without its contracts' >&2
     touch "$out/build.started"
-    env -u CARGO_BUILD_TARGET cargo build --release --offline --locked --quiet --manifest-path "$top/rust/Cargo.toml" --target-dir "$top/rust/target" \
-        -p i_shape_c_library < /dev/null >&2
+    built=$(bash "$top/scripts/by_cargo.sh" i_shape_c_library)
     rm -f "$out"/libi_shape.so*
     cp "$built/libi_shape.a" "$out"
-    cp "$built/libi_shape.so" "$out/libi_shape.so.$version"
+    install -m 644 "$built/libi_shape.so" "$out/libi_shape.so.$version"
     link_names
     touch -r "$out/build.started" "$made"
     configure

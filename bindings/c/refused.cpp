@@ -35,6 +35,15 @@ std::vector<std::uint8_t> told(const std::vector<Point> &points, const std::vect
 std::vector<std::uint8_t> told(const std::vector<Point> &points, const std::vector<int> &offsets) {
     return i_shape::is_simple_contours(points, offsets);
 }
+#elif REFUSED == 13 /* nested vectors: put them end to end by i_shape::flat() */
+struct Corner { std::int32_t x, y; };
+using Point = std::vector<Corner>;
+#elif REFUSED == 14 /* simplify_contours takes points and offsets: i_shape::flat() makes both of nested vectors */
+struct Point { std::int32_t x, y; };
+void cleaned(const std::vector<std::vector<Point>> &contours);
+void cleaned(const std::vector<std::vector<Point>> &contours) {
+    i_shape::simplify_contours(contours);
+}
 #endif
 
 std::vector<Point> left(const std::vector<Point> &points);

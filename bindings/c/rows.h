@@ -18,55 +18,55 @@ struct row {
     size_t count;
     int points[MOST][2];
     struct left left[CLEANERS];
-    int is_simple, has_no_spikes, is_convex, area_two;
+    int is_simple, has_no_spikes, is_convex, is_simple_polygon, area_two;
 };
 
 static const struct row rows[] = {
     {"a square",
      4, {{4, 4}, {0, 4}, {0, 0}, {4, 0}},
      {{4, {{4, 4}, {0, 4}, {0, 0}, {4, 0}}}, {4, {{4, 4}, {0, 4}, {0, 0}, {4, 0}}}, {4, {{0, 0}, {4, 0}, {4, 4}, {0, 4}}}, {4, {{0, 0}, {0, 4}, {4, 4}, {4, 0}}}},
-     1, 1, 1, 32},
+     1, 1, 1, 1, 32},
     {"a straight vertex",
      5, {{0, 0}, {2, 0}, {4, 0}, {4, 4}, {0, 4}},
      {{4, {{0, 0}, {4, 0}, {4, 4}, {0, 4}}}, {5, {{0, 0}, {2, 0}, {4, 0}, {4, 4}, {0, 4}}}, {4, {{0, 0}, {4, 0}, {4, 4}, {0, 4}}}, {4, {{0, 0}, {0, 4}, {4, 4}, {4, 0}}}},
-     0, 1, 1, 32},
+     0, 1, 1, 1, 32},
     {"three points on a line",
      3, {{0, 0}, {0, 8}, {0, 1}},
      {{0, {{0, 0}}}, {0, {{0, 0}}}, {0, {{0, 0}}}, {0, {{0, 0}}}},
-     0, 0, 0, 0},
+     0, 0, 0, 0, 0},
     {"two points",
      2, {{0, 0}, {4, 4}},
      {{0, {{0, 0}}}, {0, {{0, 0}}}, {0, {{0, 0}}}, {0, {{0, 0}}}},
-     0, 0, 1, 0},
+     0, 0, 1, 0, 0},
     {"a spike",
      6, {{0, 0}, {4, 0}, {4, 4}, {4, 8}, {4, 4}, {0, 4}},
      {{4, {{0, 0}, {4, 0}, {4, 4}, {0, 4}}}, {4, {{0, 0}, {4, 0}, {4, 4}, {0, 4}}}, {4, {{0, 0}, {4, 0}, {4, 4}, {0, 4}}}, {4, {{0, 0}, {0, 4}, {4, 4}, {4, 0}}}},
-     0, 0, 0, 32},
+     0, 0, 0, 0, 32},
     {"a repeated corner",
      5, {{-4, 0}, {0, -4}, {4, 0}, {4, 0}, {0, 4}},
      {{4, {{-4, 0}, {0, -4}, {4, 0}, {0, 4}}}, {4, {{-4, 0}, {0, -4}, {4, 0}, {0, 4}}}, {4, {{-4, 0}, {0, -4}, {4, 0}, {0, 4}}}, {4, {{-4, 0}, {0, -4}, {4, 0}, {0, 4}}}},
-     0, 1, 1, 64},
+     0, 1, 1, 0, 64},
     {"a bend to both sides, wound to the right",
      6, {{4, 4}, {4, 0}, {2, 0}, {2, 2}, {0, 2}, {0, 4}},
      {{6, {{4, 4}, {4, 0}, {2, 0}, {2, 2}, {0, 2}, {0, 4}}}, {6, {{4, 4}, {4, 0}, {2, 0}, {2, 2}, {0, 2}, {0, 4}}},
       {6, {{0, 2}, {0, 4}, {4, 4}, {4, 0}, {2, 0}, {2, 2}}}, {6, {{0, 2}, {0, 4}, {4, 4}, {4, 0}, {2, 0}, {2, 2}}}},
-     1, 1, 0, -24},
+     1, 1, 0, 1, -24},
     {"no point",
      0, {{0, 0}},
      {{0, {{0, 0}}}, {0, {{0, 0}}}, {0, {{0, 0}}}, {0, {{0, 0}}}},
-     0, 0, 1, 0},
+     0, 0, 1, 0, 0},
 };
 
 enum { ROWS = sizeof rows / sizeof *rows };
 
 /* The tests of a contour, of which all but the last ask for safe points. */
-enum { TESTS = 4 };
+enum { TESTS = 5 };
 
-static const char *const test_names[TESTS] = {"is_simple", "has_no_spikes", "is_convex", "is_safe"};
+static const char *const test_names[TESTS] = {"is_simple", "has_no_spikes", "is_convex", "is_simple_polygon", "is_safe"};
 
 /* What the test tells of the row. */
 static inline int told(const struct row *row, int test) {
-    const int answers[TESTS] = {row->is_simple, row->has_no_spikes, row->is_convex, 1};
+    const int answers[TESTS] = {row->is_simple, row->has_no_spikes, row->is_convex, row->is_simple_polygon, 1};
     return answers[test];
 }
 

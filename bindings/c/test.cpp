@@ -190,6 +190,7 @@ public:
         test_kinds_of_arrays();
         test_shapes();
         test_compact();
+        test_chunks();
         test_area();
         test_codes();
         test_codes_of_cleaners();
@@ -203,6 +204,8 @@ public:
         test_rows();
         test_contours();
         test_measures();
+        test_contacts();
+        test_validity();
         test_tests();
         test_windings();
     }
@@ -264,6 +267,7 @@ private:
             check(i_shape::is_simple(given) == (row.is_simple != 0), "is_simple", row.name);
             check(i_shape::has_no_spikes(given) == (row.has_no_spikes != 0), "has_no_spikes", row.name);
             check(i_shape::is_convex(given) == (row.is_convex != 0), "is_convex", row.name);
+            check(i_shape::is_simple_polygon(given) == (row.is_simple_polygon != 0), "is_simple_polygon", row.name);
             check(i_shape::is_safe(given), "is_safe", row.name);
         }
     }
@@ -321,6 +325,7 @@ private:
         const std::vector<std::uint8_t> answers[TESTS] = {i_shape::is_simple_contours(all.points, all.offsets),
                                                           i_shape::has_no_spikes_contours(all.points, all.offsets),
                                                           i_shape::is_convex_contours(all.points, all.offsets),
+                                                          i_shape::are_simple_polygons(all.points, all.offsets),
                                                           i_shape::is_safe_contours(all.points, all.offsets)};
         for (int k = 0; k < TESTS; k++) check(answers[k] == wanted[k], test_names[k], "many contours");
         const auto areas = i_shape::area_two_contours(all.points, all.offsets);
@@ -371,6 +376,24 @@ private:
         names(i_shape::Array::shapes, std::nullopt, [&] { i_shape::compact_shapes(contours, none); });
     }
 
+    /* Two triangles, the second with a hole, none, and another, behind a point that is of no contour. */
+    void test_chunks() const {
+        const Contour points = {point(least_unsafe, 0), point(0, 0), point(4, 0), point(0, 4), point(9, 0), point(19, 0), point(9, 9),
+                                point(10, 1), point(12, 1), point(10, 3), point(0, 0), point(2, 0), point(0, 2)};
+        const std::vector<std::uint16_t> contours = {1, 4, 7, 10, 13};
+        const std::vector<std::size_t> shapes = {0, 1, 3, 3, 4};
+        const auto all = i_shape::chunks(points, contours, shapes, 2);
+        check(all.size() == 2 && all[0].points.data() == points.data() + 1 && all[0].points.size() == 9 && all[1].points.data() == points.data() + 10 &&
+                  all[1].points.size() == 3, "chunks", "points");
+        check(all[0].contours == std::vector<std::size_t>{0, 3, 6, 9} && all[0].shapes == std::vector<std::size_t>{0, 1, 3}, "chunks", "the first");
+        check(all[1].contours == std::vector<std::size_t>{0, 3} && all[1].shapes == std::vector<std::size_t>{0, 0, 1}, "chunks", "an empty polygon");
+        check(i_shape::simplify_shapes(all[0].points, all[0].contours, all[0].shapes).points.size() == 9, "chunks", "cleaned");
+        check(i_shape::chunks(points, contours, shapes, 0).size() == 4 && i_shape::chunks(points, contours, shapes, SIZE_MAX).size() == 1, "chunks", "lengths");
+        check(i_shape::chunks(points, contours, std::vector<std::size_t>{2}, 1).empty(), "chunks", "no polygon");
+        names(i_shape::Array::offsets, 0, [&] { i_shape::chunks(points, std::vector<std::size_t>{14}, shapes, 1); });
+        names(i_shape::Array::shapes, 1, [&] { i_shape::chunks(points, contours, std::vector<std::size_t>{0, 5}, 1); });
+    }
+
     void test_tests() const {
         check(i_shape::contains(square(), point(1, 1)), "contains", "a point inside");
         check(!i_shape::contains(square(), point(5, 1)), "contains", "a point outside");
@@ -411,14 +434,60 @@ private:
         check(is_area(i_shape::area_two(right).value(), -32), "area_two", "a square that turns right");
     }
 
+    /* A bow tie, a triangle, and one that touches it; a bow tie of no pointer. */
+    void test_contacts() const {
+        const Contour bow_tie = {point(0, 0), point(4, 4), point(4, 0), point(0, 4)};
+        const Contour triangle = {point(6, 0), point(9, 0), point(6, 9)}, other = {point(7, 0), point(7, -2), point(8, -2)};
+        const auto is_contact = [](std::optional<i_shape::Contact> found, std::size_t first, std::size_t second) {
+            return found && found->first == first && found->second == second;
+        };
+        check(is_contact(i_shape::first_contact(bow_tie), 0, 2), "first_contact", "a bow tie");
+        check(!i_shape::first_contact(triangle) && !i_shape::first_contact(Contour()), "first_contact", "a triangle, and no point");
+        const i_shape::Contours<Point> all = i_shape::flat(std::vector<Contour>{bow_tie, triangle, other});
+        const i_shape::Span<const std::size_t> last(all.offsets.data() + 1, 3);
+        check(is_contact(i_shape::first_contact_of_rings(all.points, all.offsets), 0, 2), "first_contact_of_rings", "within a contour");
+        check(is_contact(i_shape::first_contact_of_rings(all.points, last), 4, 7), "first_contact_of_rings", "between two contours");
+        check(!i_shape::first_contact_of_rings(all.points, std::array<std::uint32_t, 2>{4, 7}), "first_contact_of_rings", "one contour, by other offsets");
+    }
+
+    /* A polygon of each kind: a bow tie with a line of two points for a hole, a hole that touches the outer contour, one outside it and one in another; and an
+     * empty one, with which they aren't the first. */
+    void test_validity() const {
+        using i_shape::FaultKind;
+        const Contour outer = {point(0, 0), point(9, 0), point(9, 9), point(0, 9)}, bow_tie = {point(0, 0), point(4, 4), point(4, 0), point(0, 4)};
+        const Contour hole = {point(2, 2), point(6, 2), point(2, 6)}, inner = {point(3, 3), point(4, 3), point(3, 4)}, line = {point(1, 1), point(2, 1)};
+        const Contour touching = {point(4, 9), point(2, 4), point(6, 4)}, outside = {point(10, 0), point(12, 0), point(12, 2)};
+        const auto all = i_shape::flat(std::vector<std::vector<Contour>>{{outer, hole}, {}, {bow_tie, line}, {outer, touching}, {outer, hole, outside}, {outer, hole, inner}});
+        const auto faults = i_shape::validity(all.points, all.contours, all.shapes);
+        const auto is_fault = [&](std::size_t polygon, FaultKind kind, std::size_t first, std::size_t second) {
+            return faults[polygon].kind == kind && faults[polygon].first == first && faults[polygon].second == second;
+        };
+        check(faults.size() == 6 && is_fault(0, FaultKind::valid, 0, 0) && is_fault(1, FaultKind::valid, 0, 0), "validity", "valid polygons");
+        check(is_fault(2, FaultKind::collapsed, 3, 0) && is_fault(3, FaultKind::contact, 15, 17), "validity", "a contour that collapses, and a contact");
+        check(is_fault(4, FaultKind::hole_outside, 8, 0) && is_fault(5, FaultKind::hole_within, 11, 10), "validity", "holes outside and within");
+        check(i_shape::validity(all.points, std::array<std::uint32_t, 1>{7}, std::array<std::uint16_t, 1>{0}).empty(), "validity", "no polygon, by other offsets");
+    }
+
     void test_codes() const {
         using i_shape::Code;
         Contour unsafe = square();
         unsafe[2] = point(least_unsafe, 0);
-        const std::vector<std::size_t> whole = {0, 4}, none;
+        const std::vector<std::size_t> whole = {0, 4}, one = {0, 1}, none;
         throws(Code::unsafe, "is_simple", "a point that isn't safe", [&] { i_shape::is_simple(unsafe); });
         throws(Code::unsafe, "has_no_spikes", "a point that isn't safe", [&] { i_shape::has_no_spikes(unsafe); });
         throws(Code::unsafe, "is_convex", "a point that isn't safe", [&] { i_shape::is_convex(unsafe); });
+        throws(Code::unsafe, "is_simple_polygon", "a point that isn't safe", [&] { i_shape::is_simple_polygon(unsafe); });
+        throws(Code::unsafe, "first_contact", "a point that isn't safe", [&] { i_shape::first_contact(unsafe); });
+        throws(Code::unsafe, "first_contact_of_rings", "a point that isn't safe", [&] { i_shape::first_contact_of_rings(unsafe, whole); });
+        throws(Code::bad_offsets, "first_contact_of_rings", "no offset", [&] { i_shape::first_contact_of_rings(square(), none); });
+        throws(Code::unsafe, "are_simple_polygons", "a point that isn't safe", [&] { i_shape::are_simple_polygons(unsafe, whole); });
+        throws(Code::bad_offsets, "are_simple_polygons", "no offset", [&] { i_shape::are_simple_polygons(square(), none); });
+        throws(Code::unsafe, "validity", "a point that isn't safe", [&] { i_shape::validity(unsafe, whole, one); });
+        throws(Code::bad_offsets, "validity", "no offset", [&] { i_shape::validity(square(), none, one); });
+        throws(Code::bad_offsets, "validity", "no offset of polygons", [&] { i_shape::validity(square(), whole, none); });
+        is_refused = true;
+        throws(Code::no_memory, "validity", "refused memory", [&] { i_shape::validity(square(), whole, one); });
+        is_refused = false;
         throws(Code::unsafe, "contains", "a vertex that isn't safe", [&] { i_shape::contains(unsafe, point(1, 1)); });
         throws(Code::unsafe, "contains", "a point that isn't safe", [&] { i_shape::contains(square(), point(least_unsafe, 1)); });
         throws(Code::unsafe, "winding", "a point that isn't safe", [&] { i_shape::winding(square(), point(least_unsafe, 1)); });
@@ -482,6 +551,18 @@ private:
         names(Array::shapes, 1, [&] { i_shape::canonical_shapes(square(), whole, first); });
         names(Array::shapes, std::nullopt, [&] { i_shape::canonical_shapes(square(), whole, none); });
         names(Array::out, std::nullopt, [&] { i_shape::despike_into(square(), i_shape::Span<Point>(unsafe.data(), 3)); });
+        const std::string bits = std::to_string(8 * sizeof(Coordinate)), bound = std::to_string(8 * sizeof(Coordinate) - 2);
+        const std::string range = "[2] is (" + std::to_string(least_unsafe) + ", 0), and not strictly between -2^" + bound + " and 2^" + bound + ", the safe range of " + bits + " bits";
+        says(std::nullopt, "points" + range, [&] { i_shape::simplify(unsafe); });
+        says(2, "contour 2: points" + range, [&] { i_shape::simplify_contours(unsafe, Offsets{0, 1, 1, 4}); });
+        says(0, "contour 0: points" + range, [&] { i_shape::canonical_shapes(unsafe, Offsets{1, 4}, Offsets{0, 1}); });
+        says(std::nullopt, "about" + range, [&] { i_shape::locate(square(), whole, unsafe, i_shape::FillRule::nonzero); });
+        says(std::nullopt, "offsets[2] is 2, below the one before it, 3", [&] { i_shape::area_two_contours(square(), backwards); });
+        says(std::nullopt, "offsets[1] is 9, above the count, 4", [&] { i_shape::simplify_shapes(square(), outside, first); });
+        says(std::nullopt, "shapes[1] is 2, above the count, 1", [&] { i_shape::canonical_shapes(square(), whole, first); });
+        says(std::nullopt, "there are no offsets", [&] { i_shape::simplify_contours(square(), none); });
+        says(std::nullopt, "there are no shapes", [&] { i_shape::canonical_shapes(square(), whole, none); });
+        says(std::nullopt, "out has room for 3, and as many points as are given, 4, are needed", [&] { i_shape::despike_into(square(), i_shape::Span<Point>(unsafe.data(), 3)); });
         check(i_shape::simplify_contours(square(), whole).points.size() == 4, "simplify_contours", "offsets of 16 bits");
     }
 
@@ -494,6 +575,18 @@ private:
             const std::string what = error.what();
             check(error.array() == array && error.place() == place, "an error", what.c_str());
             check(!place || what.find('[' + std::to_string(*place) + ']') != std::string::npos, "what", what.c_str());
+        }
+    }
+
+    /* The words of an error end with these, and it names this contour. */
+    template <class Call>
+    void says(std::optional<std::size_t> contour, const std::string &words, Call call) const {
+        try {
+            call();
+            check(false, "what", words.c_str());
+        } catch (const i_shape::Error &error) {
+            const std::string what = error.what();
+            check(error.contour() == contour && what.size() > words.size() + 2 && what.substr(what.size() - words.size() - 2) == ": " + words, words.c_str(), what.c_str());
         }
     }
 

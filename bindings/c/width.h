@@ -19,7 +19,8 @@ static AT(clean_shapes) const AT(polygons)[] = {CALL(simplify_shapes), CALL(desp
 
 typedef int32_t (*AT(test_many))(const POINT *, size_t, const size_t *, size_t, uint8_t *, size_t);
 
-static AT(test_many) const AT(tests)[] = {CALL(is_simple_contours), CALL(has_no_spikes_contours), CALL(is_convex_contours), CALL(is_safe_contours)};
+static AT(test_many) const AT(tests)[] = {CALL(is_simple_contours), CALL(has_no_spikes_contours), CALL(is_convex_contours), CALL(are_simple_polygons),
+                                          CALL(is_safe_contours)};
 
 static void AT(points_of)(const int (*from)[2], size_t count, POINT *to) {
     for (size_t k = 0; k < count; k++) {
@@ -192,6 +193,7 @@ static void AT(test_tests)(void) {
         check(CALL(is_simple)(given, row->count) == row->is_simple, W, "is_simple", row->name);
         check(CALL(has_no_spikes)(given, row->count) == row->has_no_spikes, W, "has_no_spikes", row->name);
         check(CALL(is_convex)(given, row->count) == row->is_convex, W, "is_convex", row->name);
+        check(CALL(is_simple_polygon)(given, row->count) == row->is_simple_polygon, W, "is_simple_polygon", row->name);
         check(CALL(is_safe)(given, row->count) == 1, W, "is_safe", row->name);
     }
     POINT square[4] = {{0, 0}, {4, 0}, {4, 4}, {0, 4}};
@@ -211,6 +213,7 @@ static void AT(test_tests)(void) {
     check(CALL(is_simple)(square, 4) == I_SHAPE_UNSAFE, W, "is_simple", "a vertex that isn't safe");
     check(CALL(has_no_spikes)(square, 4) == I_SHAPE_UNSAFE, W, "has_no_spikes", "a vertex that isn't safe");
     check(CALL(is_convex)(square, 4) == I_SHAPE_UNSAFE, W, "is_convex", "a vertex that isn't safe");
+    check(CALL(is_simple_polygon)(square, 4) == I_SHAPE_UNSAFE, W, "is_simple_polygon", "a vertex that isn't safe");
     check(CALL(contains)(square, 4, 1, 1) == I_SHAPE_UNSAFE, W, "contains", "a vertex that isn't safe");
 }
 
@@ -413,6 +416,121 @@ static void AT(test_locations)(void) {
     check(is_filled(bytes, sizeof bytes) && is_filled(places, sizeof places), W, "locate", "codes leave the array as it was");
 }
 
+/* Whether the call returned this contact, and behind it nothing was written. */
+static int AT(is_contact)(int32_t answer, const size_t *out, size_t first, size_t second) {
+    return answer == 1 && out[0] == first && out[1] == second && is_filled(out + 2, sizeof *out);
+}
+
+static void AT(test_contacts)(void) {
+    /* Behind a point that no contour has: a bow tie, a triangle, and one that touches it. */
+    POINT given[12] = {{LEAST_UNSAFE, 0}, {0, 0}, {4, 4}, {4, 0}, {0, 4}, {6, 0}, {9, 0}, {6, 9}, {7, 0}, {7, -2}, {8, -2}, {0, LEAST_UNSAFE}};
+    const size_t all[4] = {1, 5, 8, 11}, backwards[3] = {1, 8, 5}, outside[2] = {1, 13}, low[2] = {0, 5}, high[2] = {8, 12};
+    size_t out[3];
+    fill(out, sizeof out);
+    check(AT(is_contact)(CALL(first_contact)(given + 1, 4, out, 3), out, 0, 2), W, "first_contact", "a bow tie");
+    fill(out, sizeof out);
+    check(CALL(first_contact)(given + 5, 3, out, 2) == 0 && is_filled(out, sizeof out), W, "first_contact", "a triangle");
+    check(CALL(first_contact)(given, 0, out, 2) == 0 && is_filled(out, sizeof out), W, "first_contact", "no point");
+    check(CALL(first_contact)(given, 12, out, 1) == I_SHAPE_NO_ROOM && is_filled(out, sizeof out), W, "first_contact", "room for one of two places");
+    check(CALL(first_contact)(given, 5, out, 2) == I_SHAPE_UNSAFE && is_filled(out, sizeof out), W, "first_contact", "a vertex that isn't safe");
+    check(AT(is_contact)(CALL(first_contact_of_rings)(given, 12, all, 4, out, 3), out, 1, 3), W, "first_contact_of_rings", "within a contour");
+    fill(out, sizeof out);
+    check(AT(is_contact)(CALL(first_contact_of_rings)(given, 12, all + 1, 3, out, 3), out, 5, 8), W, "first_contact_of_rings", "between two contours");
+    fill(out, sizeof out);
+    check(CALL(first_contact_of_rings)(given, 12, all + 1, 2, out, 2) == 0 && CALL(first_contact_of_rings)(given, 12, all, 1, out, 2) == 0, W,
+          "first_contact_of_rings", "one contour, and none");
+    check(CALL(first_contact_of_rings)(given, 12, all, 0, out, 2) == I_SHAPE_BAD_OFFSETS, W, "first_contact_of_rings", "no offset");
+    check(CALL(first_contact_of_rings)(given, 12, backwards, 3, out, 2) == I_SHAPE_BAD_OFFSETS, W, "first_contact_of_rings", "offsets that run backwards");
+    check(CALL(first_contact_of_rings)(given, 12, outside, 2, out, 1) == I_SHAPE_BAD_OFFSETS, W, "first_contact_of_rings", "an offset out of the points");
+    check(CALL(first_contact_of_rings)(given, 12, low, 2, out, 1) == I_SHAPE_NO_ROOM, W, "first_contact_of_rings", "room for one of two places");
+    check(CALL(first_contact_of_rings)(given, 12, low, 2, out, 2) == I_SHAPE_UNSAFE, W, "first_contact_of_rings", "a first point that isn't safe");
+    check(CALL(first_contact_of_rings)(given, 12, high, 2, out, 2) == I_SHAPE_UNSAFE, W, "first_contact_of_rings", "a last point that isn't safe");
+    check(is_filled(out, sizeof out), W, "first_contact_of_rings", "codes and 0 leave the array as it was");
+    WITH_EACH_GROWTH_REFUSED(CALL(first_contact_of_rings)(given, 12, all, 4, out, 2), is_filled(out, sizeof out), growths == 1, W, "first_contact_of_rings");
+}
+
+/* Behind a point that no contour has, and a contour that no polygon has: a polygon of each kind, and one without contours. */
+static void AT(test_validity)(void) {
+    const POINT given[50] = {{LEAST_UNSAFE, 0},
+                             {0, 0}, {4, 4}, {4, 0}, {0, 4},                                                                /* a bow tie */
+                             {0, 0}, {20, 0}, {20, 20}, {0, 20}, {2, 2}, {4, 2}, {4, 4}, {10, 10}, {12, 10}, {12, 12},       /* two holes apart */
+                             {0, 0}, {4, 4}, {4, 0}, {0, 4}, {3, 3}, {3, 3}, {3, 3},                                         /* a point for a hole in a bow tie */
+                             {0, 0}, {8, 0}, {8, 8}, {0, 8}, {4, 8}, {2, 4}, {6, 4},                                         /* a hole that touches the outer contour */
+                             {0, 0}, {8, 0}, {8, 8}, {0, 8}, {1, 1}, {2, 1}, {2, 2}, {10, 0}, {12, 0}, {12, 2},              /* a hole inside and one outside */
+                             {0, 0}, {20, 0}, {20, 20}, {0, 20}, {2, 2}, {16, 2}, {2, 16}, {4, 4}, {6, 4}, {4, 6},           /* a hole in a hole */
+                             {0, LEAST_UNSAFE}};
+    const size_t contours[15] = {1, 5, 9, 12, 15, 19, 22, 26, 29, 33, 36, 39, 43, 46, 49}, shapes[7] = {1, 4, 6, 8, 8, 11, 14};
+    const i_shape_fault faults[6] = {{I_SHAPE_VALID, 0, 0}, {I_SHAPE_COLLAPSED, 5, 0}, {I_SHAPE_CONTACT, 24, 26},
+                                     {I_SHAPE_VALID, 0, 0}, {I_SHAPE_HOLE_OUTSIDE, 10, 0}, {I_SHAPE_HOLE_WITHIN, 13, 12}};
+    const size_t back[3] = {1, 9, 5}, outside[2] = {1, 51}, shapes_back[3] = {1, 4, 3}, shapes_outside[2] = {1, 15}, low[2] = {0, 5}, high[2] = {46, 50}, one[2] = {0, 1};
+    i_shape_fault out[7];
+    fill(out, sizeof out);
+    check(CALL(validity_shapes)(given, 50, contours, 15, shapes, 7, out, 6) == 0 && memcmp(out, faults, sizeof faults) == 0 && is_filled(out + 6, sizeof *out), W,
+          "validity_shapes", "a polygon of each kind");
+    fill(out, sizeof out);
+    check(CALL(validity_shapes)(given, 50, contours, 15, shapes, 1, out, 0) == 0, W, "validity_shapes", "no polygon");
+    check(CALL(validity_shapes)(given, 50, contours, 0, shapes, 7, out, 7) == I_SHAPE_BAD_OFFSETS, W, "validity_shapes", "no offset of contours");
+    check(CALL(validity_shapes)(given, 50, contours, 15, shapes, 0, out, 7) == I_SHAPE_BAD_OFFSETS, W, "validity_shapes", "no offset of polygons");
+    check(CALL(validity_shapes)(given, 50, back, 3, one, 2, out, 7) == I_SHAPE_BAD_OFFSETS, W, "validity_shapes", "contours that run backwards");
+    check(CALL(validity_shapes)(given, 50, outside, 2, one, 2, out, 0) == I_SHAPE_BAD_OFFSETS, W, "validity_shapes", "a contour out of the points");
+    check(CALL(validity_shapes)(given, 50, contours, 15, shapes_back, 3, out, 7) == I_SHAPE_BAD_OFFSETS, W, "validity_shapes", "polygons that run backwards");
+    check(CALL(validity_shapes)(given, 50, contours, 15, shapes_outside, 2, out, 0) == I_SHAPE_BAD_OFFSETS, W, "validity_shapes", "a polygon out of the contours");
+    check(CALL(validity_shapes)(given, 50, contours, 15, shapes, 7, out, 5) == I_SHAPE_NO_ROOM, W, "validity_shapes", "room for five of six faults");
+    check(CALL(validity_shapes)(given, 50, low, 2, one, 2, out, 0) == I_SHAPE_NO_ROOM, W, "validity_shapes", "the room is tested before the points");
+    check(CALL(validity_shapes)(given, 50, low, 2, one, 2, out, 7) == I_SHAPE_UNSAFE, W, "validity_shapes", "a first point that isn't safe");
+    check(CALL(validity_shapes)(given, 50, high, 2, one, 1, out, 7) == I_SHAPE_UNSAFE, W, "validity_shapes", "a last point that isn't safe, of no polygon");
+    check(is_filled(out, sizeof out), W, "validity_shapes", "codes leave the array as it was");
+    WITH_EACH_GROWTH_REFUSED(CALL(validity_shapes)(given, 50, contours, 15, shapes, 7, out, 7), is_filled(out, sizeof out), growths == 1, W, "validity_shapes");
+}
+
+/* Sixteen points and more: steps up and back down, of which the last edge, with `touches`, touches the second one. With each growth
+   refused the result is the same. */
+static void AT(test_refused_contacts)(void) {
+    enum { STEPS = 20, COUNT = 2 * STEPS };
+    POINT steps[COUNT];
+    const size_t whole[2] = {0, COUNT}, one[2] = {0, 1};
+    for (int k = 0; k < STEPS; k++) {
+        const POINT up = {(COORDINATE)(k / 2 * 4 + k % 2 * 4), (COORDINATE)(k / 2 * 4)}, down = {(COORDINATE)(up.x - 2), (COORDINATE)(up.y + 3)};
+        steps[k] = up;
+        steps[COUNT - 1 - k] = down;
+    }
+    for (int touches = 0; touches < 2; touches++) {
+        if (touches) steps[COUNT - 1].x = 6;
+        for (size_t growth = 0; growth < 2; growth++) {
+            size_t out[3];
+            uint8_t byte = 2;
+            i_shape_fault fault;
+#ifdef REFUSES
+#define WITH_GROWTH(place) (refused = growth * (place), growths = 0)
+#define ARE_TAKEN(count) (growths == (count) && blocks == 0)
+#else
+#define WITH_GROWTH(place) ((void)0)
+#define ARE_TAKEN(count) 1
+#endif
+            fill(out, sizeof out);
+            WITH_GROWTH(1);
+            check(CALL(first_contact)(steps, COUNT, out, 2) == touches && ARE_TAKEN(1) && is_filled(out + 2 * touches, (size_t)(3 - 2 * touches) * sizeof *out), W,
+                  "first_contact", "steps");
+            check(!touches || (out[0] == 1 && out[1] == COUNT - 2), W, "first_contact", "where steps touch");
+            WITH_GROWTH(1);
+            check(CALL(is_simple_polygon)(steps, COUNT) == !touches && ARE_TAKEN(1), W, "is_simple_polygon", "steps");
+            WITH_GROWTH(1);
+            check(CALL(are_simple_polygons)(steps, COUNT, whole, 2, &byte, 1) == 0 && byte == !touches && ARE_TAKEN(1), W, "are_simple_polygons", "steps");
+            WITH_GROWTH(1);
+            check(CALL(first_contact_of_rings)(steps, COUNT, whole, 2, out, 2) == touches && ARE_TAKEN(1), W, "first_contact_of_rings", "steps");
+            WITH_GROWTH(2); /* the first one is the copy of the offsets */
+            check(CALL(validity_shapes)(steps, COUNT, whole, 2, one, 2, &fault, 1) == 0 && ARE_TAKEN(2), W, "validity_shapes", "steps");
+            check(fault.kind == (touches ? I_SHAPE_CONTACT : I_SHAPE_VALID) && fault.first == (touches ? 1 : 0) && fault.second == (touches ? COUNT - 2 : 0), W,
+                  "validity_shapes", "where steps touch");
+#ifdef REFUSES
+            refused = 0;
+#endif
+#undef WITH_GROWTH
+#undef ARE_TAKEN
+        }
+    }
+}
+
 static void AT(test_area)(void) {
     const POINT square[4] = {{0, 0}, {4, 0}, {4, 4}, {0, 4}}, turned[4] = {{0, 0}, {0, 4}, {4, 4}, {4, 0}};
     AREA area;
@@ -590,6 +708,9 @@ static void AT(test_width)(void) {
     AT(test_windings)();
     AT(test_many_points)();
     AT(test_locations)();
+    AT(test_contacts)();
+    AT(test_validity)();
+    AT(test_refused_contacts)();
     AT(test_area)();
     AT(test_refusals)();
 }

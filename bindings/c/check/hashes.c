@@ -161,6 +161,12 @@ static void tell_all(uint64_t seed, size_t rounds) {
     hash_i16(rounds);
     hash_i32(rounds);
     hash_i64(rounds);
+    hash_contacts_i16(rounds);
+    hash_contacts_i32(rounds);
+    hash_contacts_i64(rounds);
+    hash_validity_i16(rounds);
+    hash_validity_i32(rounds);
+    hash_validity_i64(rounds);
 }
 
 int main(int argc, char **argv) {

@@ -57,12 +57,32 @@ static uint64_t AT(written)(uint64_t hash) {
     return written(hash);
 }
 
+/* The same, and in three of four runs the contours are triangles, of which many lie apart or one within another. */
+static void AT(make_triangles)(void) {
+    AT(make)();
+    if (one_in(4)) return;
+    const size_t triangles = below(one_in(2) ? 6 : MOST_OFFSETS);
+    for (size_t k = 0; k < triangles; k++) {
+        const int is_around = k == 0 || one_in(6);
+        const COORDINATE x = is_around ? -1 : (COORDINATE)below(64), y = is_around ? -1 : (COORDINATE)below(64);
+        const COORDINATE size = (COORDINATE)(is_around ? 256 : one_in(2) ? 2 : 48);
+        const POINT corners[3] = {{x, y}, {(COORDINATE)(x + size), y}, {x, (COORDINATE)(y + size)}};
+        memcpy(AT(points) + 3 * k, corners, sizeof corners);
+        offsets[k] = 3 * k;
+    }
+    offsets[triangles] = count = 3 * triangles;
+    offset_count = triangles + 1;
+    shape_count = one_in(2) ? 2 : make_offsets(shapes, triangles);
+    if (shape_count == 2) shapes[0] = 0, shapes[1] = triangles;
+}
+
 /* Tells the hash of a call with these words in parentheses, over all rounds. Its points, rooms and rule are made anew for each. */
-#define HASH(NAME, WORDS) \
+#define HASH(NAME, WORDS) HASH_MADE(make, NAME, WORDS)
+#define HASH_MADE(MAKE, NAME, WORDS) \
     do { \
         uint64_t hash = 0; \
         for (size_t round = 0; round < rounds; round++) { \
-            AT(make)(); \
+            AT(MAKE)(); \
             AT(clear)(); \
             make_rooms(); \
             const int32_t rule = (int32_t)below(7) - 1; \
@@ -114,6 +134,18 @@ static void AT(hash)(size_t rounds) {
     HASH(is_safe_contours, (BATCH, bytes, room_of.contours));
 }
 
+static void AT(hash_contacts)(size_t rounds) {
+    HASH(is_simple_polygon, (POINTS));
+    HASH(are_simple_polygons, (BATCH, bytes, room_of.contours));
+    HASH(first_contact, (POINTS, out_offsets[0], room(2)));
+    HASH(first_contact_of_rings, (BATCH, out_offsets[0], room(2)));
+}
+
+/* A fault is three numbers: those of all polygons fit into the arrays of offsets. */
+static void AT(hash_validity)(size_t rounds) {
+    HASH_MADE(make_triangles, validity_shapes, (BATCH, shapes, shape_count, (i_shape_fault *)out_offsets[0], room(shape_count > 0 ? shape_count - 1 : 0)));
+}
+
 #undef JOINED
 #undef JOIN
 #undef AT
@@ -122,6 +154,7 @@ static void AT(hash)(size_t rounds) {
 #undef COORDINATE
 #undef LIMIT
 #undef HASH
+#undef HASH_MADE
 #undef TEXT_OF
 #undef TEXT
 #undef POINTS

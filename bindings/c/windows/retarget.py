@@ -9,12 +9,10 @@ number narrower than its register has no known bits above it, and the pair that 
 It stops at whatever it doesn't know to mean the same on Windows, such as an exported function that is passed a struct. rattle has no
 target of Windows, so what it writes can be compared with nothing.
 """
-import os
 import re
 import sys
 
 sys.dont_write_bytecode = True
-sys.path.insert(0, os.path.join(os.path.dirname(os.path.realpath(__file__)), "..", "..", "module"))
 from linux_module import FUNCTION_HEAD, bare, rewrite, stop, stop_at_the_unknown, with_target
 
 LAYOUT = "e-m:w-p270:32:32-p271:32:32-p272:64:64-i64:64-i128:128-f80:128-n8:16:32:64-S128"

@@ -4,8 +4,8 @@ use Rattle.std.proofs.lemmas.List.{take-append-drop, drop-drop, take-set, drop-s
 use Rattle.i_shape.specs.Paths.{concatenated}
 use Rattle.i_shape.proofs.lists.EndToEnd.{concatenated-append}
 use Rattle.i_shape_c.specs.Appended.{IsPut, ends_from, AppendsRings, AppendsPolygons, WritesPolygons}
-use Rattle.i_shape_c.specs.Batch.{offset, nth_contour, AreRising, PartsPoints}
-use Rattle.i_shape_c.specs.Polygons.{offsets_of}
+use Rattle.i_shape_c.specs.Batch.{contour_arrays, offset, nth_contour, AreRising, PartsPoints}
+use Rattle.i_shape_c.specs.Polygons.{polygon_arrays, offsets_of}
 use Rattle.i_shape_c.specs.declared.polygons.Counts.{Counts}
 use Rattle.i_shape_core.proofs.lists.Rings.{rises_to}
 
@@ -43,7 +43,7 @@ put_between at end old new order within before after =
     let rest : drop (end - at) (drop at new) ≡ drop (at + length part) old = drop-drop (end - at) at new ∙ ap (λ n. drop n new) sum ∙ after ∙ ap (λ n. drop n old) (sym long) in
     (long, sym (take-append-drop at new) ∙ ap₂ (λ a b. a ++ b) before (sym (take-append-drop (end - at) (drop at new)) ∙ ap (λ l. part ++ l) rest))
 
--- what is put at the start stands there
+-- what is put at the start is there
 pub put_front : {X : Type 0} (part old new : List X) → IsPut 0 part old new → (take (length part) new ≡ part) × (drop (length part) new ≡ drop (length part) old) × (new ≡ part ++ drop (length part) old)
 put_front part old new put =
     let none : 0 + length part ≡ length part = omega arith in
@@ -73,7 +73,7 @@ pub length-offsets : {X : Type 0} (start : ℕ) (xs : List (List X)) → length 
 length-offsets start xs = let count = length-ends start xs in omega (arith, ap length (offsets-ends_from start xs), count)
 
 -- before the first contour nothing is written
-pub rings_none : {P : Type 0} (points : List P) (contours : List ℕ) (counts : Counts) → AppendsRings [] points points contours contours counts counts
+pub rings_none : {P : Type 0} (points : List P) (contours : List ℕ) (counts : Counts) → AppendsRings [] (contour_arrays points contours) (contour_arrays points contours) counts counts
 rings_none points contours counts = record {
   points = put_none counts.points points;
   contours = put_none (counts.contours + 1) contours;
@@ -85,7 +85,7 @@ rings_none points contours counts = record {
 
 -- a contour with points is written, with its end
 pub ring_put : {P : Type 0} (ring : List P) (old_points new_points : List P) (contours : List ℕ) (counts : Counts) → IsPut counts.points ring old_points new_points → length new_points ≡ length old_points → counts.contours + 1 < length contours
-    → AppendsRings (ring ∷ []) old_points new_points contours (set contours (counts.contours + 1) (counts.points + length ring)) counts (record { points = counts.points + length ring; contours = counts.contours + 1; shapes = counts.shapes })
+    → AppendsRings (ring ∷ []) (contour_arrays old_points contours) (contour_arrays new_points (set contours (counts.contours + 1) (counts.points + length ring))) counts (record { points = counts.points + length ring; contours = counts.contours + 1; shapes = counts.shapes })
 ring_put ring old_points new_points contours counts put len room = record {
   points = subst (λ w. IsPut counts.points w old_points new_points) (sym (append-nil ring)) put;
   contours = put_one contours (counts.contours + 1) (counts.points + length ring) room;
@@ -97,7 +97,7 @@ ring_put ring old_points new_points contours counts put len room = record {
 
 -- contours behind contours
 pub rings_more : {P : Type 0} (xs ys : List (List P)) (op mp np : List P) (oc mc nc : List ℕ) (before mid after : Counts)
-    → AppendsRings xs op mp oc mc before mid → AppendsRings ys mp np mc nc mid after → before.points ≤ length op → before.contours + 1 ≤ length oc → AppendsRings (xs ++ ys) op np oc nc before after
+    → AppendsRings xs (contour_arrays op oc) (contour_arrays mp mc) before mid → AppendsRings ys (contour_arrays mp mc) (contour_arrays np nc) mid after → before.points ≤ length op → before.contours + 1 ≤ length oc → AppendsRings (xs ++ ys) (contour_arrays op oc) (contour_arrays np nc) before after
 rings_more xs ys op mp np oc mc nc before mid after a b points_room contours_room = record {
   points = subst (λ w. IsPut before.points w op np) (sym (concatenated-append xs ys)) (put_more before.points mid.points (concatenated xs) (concatenated ys) op mp np a.points b.points a.points_count points_room);
   contours = subst (λ w. IsPut (before.contours + 1) w oc nc) (sym (ends-append before.points xs ys))
@@ -110,7 +110,7 @@ rings_more xs ys op mp np oc mc nc before mid after a b points_room contours_roo
 }
 
 -- a polygon that is left out changes nothing
-pub polygons_none : {P : Type 0} (points : List P) (contours shapes : List ℕ) (counts : Counts) → AppendsPolygons [] points points contours contours shapes shapes counts counts
+pub polygons_none : {P : Type 0} (points : List P) (contours shapes : List ℕ) (counts : Counts) → AppendsPolygons [] (polygon_arrays points contours shapes) (polygon_arrays points contours shapes) counts counts
 polygons_none points contours shapes counts = record {
   rings = rings_none points contours counts;
   shapes = put_none (counts.shapes + 1) shapes;
@@ -120,8 +120,8 @@ polygons_none points contours shapes counts = record {
 
 -- a polygon is written with its end, once its contours are
 pub polygon_put : {P : Type 0} (rings : List (List P)) (old_points new_points : List P) (old_contours new_contours shapes : List ℕ) (before mid : Counts)
-    → AppendsRings rings old_points new_points old_contours new_contours before mid → mid.shapes ≡ before.shapes → before.shapes + 1 < length shapes
-    → AppendsPolygons (rings ∷ []) old_points new_points old_contours new_contours shapes (set shapes (mid.shapes + 1) mid.contours) before (record { points = mid.points; contours = mid.contours; shapes = mid.shapes + 1 })
+    → AppendsRings rings (contour_arrays old_points old_contours) (contour_arrays new_points new_contours) before mid → mid.shapes ≡ before.shapes → before.shapes + 1 < length shapes
+    → AppendsPolygons (rings ∷ []) (polygon_arrays old_points old_contours shapes) (polygon_arrays new_points new_contours (set shapes (mid.shapes + 1) mid.contours)) before (record { points = mid.points; contours = mid.contours; shapes = mid.shapes + 1 })
 polygon_put rings old_points new_points old_contours new_contours shapes before mid a same room =
     let all : rings ≡ rings ++ [] = sym (append-nil rings) in
     record {
@@ -140,10 +140,10 @@ polygon_put rings old_points new_points old_contours new_contours shapes before 
 
 -- polygons behind polygons
 pub polygons_more : {P : Type 0} (xs ys : List (List (List P))) (op mp np : List P) (oc mc nc os ms ns : List ℕ) (before mid after : Counts)
-    → AppendsPolygons xs op mp oc mc os ms before mid → AppendsPolygons ys mp np mc nc ms ns mid after → before.points ≤ length op → before.contours + 1 ≤ length oc → before.shapes + 1 ≤ length os
-    → AppendsPolygons (xs ++ ys) op np oc nc os ns before after
+    → AppendsPolygons xs (polygon_arrays op oc os) (polygon_arrays mp mc ms) before mid → AppendsPolygons ys (polygon_arrays mp mc ms) (polygon_arrays np nc ns) mid after → before.points ≤ length op → before.contours + 1 ≤ length oc → before.shapes + 1 ≤ length os
+    → AppendsPolygons (xs ++ ys) (polygon_arrays op oc os) (polygon_arrays np nc ns) before after
 polygons_more xs ys op mp np oc mc nc os ms ns before mid after a b points_room contours_room shapes_room = record {
-  rings = subst (λ w. AppendsRings w op np oc nc before after) (sym (concatenated-append xs ys))
+  rings = subst (λ w. AppendsRings w (contour_arrays op oc) (contour_arrays np nc) before after) (sym (concatenated-append xs ys))
       (rings_more (concatenated xs) (concatenated ys) op mp np oc mc nc before mid after a.rings b.rings points_room contours_room);
   shapes = subst (λ w. IsPut (before.shapes + 1) w os ns) (sym (ends-append before.contours xs ys))
       (put_more (before.shapes + 1) (mid.shapes + 1) (ends_from before.contours xs) (ends_from (before.contours + length (concatenated xs)) ys) os ms ns a.shapes
@@ -217,9 +217,9 @@ module _ (rings shapes : List ℕ) (place : ℕ) (order : AreRising shapes (leng
 
 -- where polygons are written behind the first offsets, which are 0, the arrays hold them
 pub all_written_out : {P : Type 0} (list : List (List (List P))) (points rings shapes : ℕ) (old_points new_points : List P) (old_contours new_contours old_shapes new_shapes : List ℕ) (counts : Counts)
-    → AppendsPolygons list old_points new_points (set old_contours 0 0) new_contours (set old_shapes 0 0) new_shapes (record { points = 0; contours = 0; shapes = 0 }) counts
+    → AppendsPolygons list (polygon_arrays old_points (set old_contours 0 0) (set old_shapes 0 0)) (polygon_arrays new_points new_contours new_shapes) (record { points = 0; contours = 0; shapes = 0 }) counts
     → 0 < length old_contours → 0 < length old_shapes → counts.points ≤ points → counts.contours < rings → counts.shapes < shapes
-    → WritesPolygons list points rings shapes old_points new_points old_contours new_contours old_shapes new_shapes counts.shapes
+    → WritesPolygons list points rings shapes (polygon_arrays old_points old_contours old_shapes) (polygon_arrays new_points new_contours new_shapes) counts.shapes
 all_written_out list points rings shapes old_points new_points old_contours new_contours old_shapes new_shapes counts all some_contours some_shapes fewer_points fewer_contours fewer_shapes =
     let points_count = all.rings.points_count in
     let contours_count = all.rings.contours_count in

@@ -1,29 +1,31 @@
 -- Contours in one array of points, parted by offsets.
-use Rattle.std.proofs.Common.{◌≡◌, ◌↔◌, inl, inr, ℕ, ℤ, ◌+◌, ◌-◌, ◌≤◌, ◌<◌, List, map, length, take, drop, slice_range, ap, sym, subst, ◌∙◌, arith, Option, All, Result, Ok, Err, IsOk, IfOk, OnErr}
+use Rattle.std.proofs.Common.{◌≡◌, ◌↔◌, inl, inr, ℕ, ℤ, ◌+◌, ◌-◌, ◌≤◌, ◌<◌, List, map, length, take, drop, slice_range, ap, sym, subst, ◌∙◌, arith, All, Result, Ok, Err, IsOk, IfOk, OnErr}
 use Rattle.std.specs.Int.{Width}
 use Rattle.std.proofs.lemmas.Bool.{cases_lt}
 use Rattle.std.proofs.lemmas.List.{take-take, drop-take, drop-drop, length-map}
 use Rattle.std.proofs.lemmas.List.Elements.{All-take, All-drop}
 use Rattle.i_shape_core.proofs.Common.{Point, point_of, contour_of, IsSafe}
+use Rattle.i_shape_core.specs.Reading.{read}
 use Rattle.i_shape.specs.IntPoints.{IntPoint}
 use Rattle.i_shape_core.specs.Rings.{AreSafeRings, HaveRoom, Leaves, AreCleanedRings}
 use Rattle.i_shape_core.proofs.lists.Rings.{rises_to}
 use Rattle.i_shape_c.specs.Cleaned.{AreSafe, TakesNoMemory}
+use Rattle.i_shape_c.specs.Cleaning.{Cleaning}
 use Rattle.i_shape_c.specs.Places.{AreGoodOffsets, IsFirstBadOffset}
-use Rattle.i_shape_c.specs.Batch.{offset, nth_contour, AreRising, PartsPoints, AreSafeContours, AreSpared, IsCleanedBatch}
+use Rattle.i_shape_c.specs.Batch.{contour_arrays, offset, nth_contour, AreRising, PartsPoints, AreSafeContours, AreSpared, IsCleanedBatch}
 use Rattle.i_shape_c.proofs.Boundary.{copied_points, safe_contour}
 
--- what holds whatever a call answers holds where it answers an error
+-- what always holds also holds if a call fails
 pub on_err : {T E Q : Type 0} (r : Result T E) → Q → OnErr r Q
 on_err (Ok t) q = tt
 on_err (Err e) q = q
 
--- what follows from what a call answers
+-- if P implies Q, a success that has P has Q
 pub if_ok : {T E : Type 0} {P Q : T → Type 0} (r : Result T E) → ((t : T) → P t → Q t) → IfOk r P → IfOk r Q
 if_ok (Ok t) follows p = follows t p
 if_ok (Err e) follows p = tt
 
--- what makes a call answer no error doesn't hold where it answers one
+-- if Q implies that a call succeeds, Q is false of a call that fails
 pub unless_ok : {T E Q : Type 0} (r : Result T E) → (Q → IsOk r) → OnErr r (Q → ⊥)
 unless_ok (Ok t) ok = tt
 unless_ok (Err e) ok = λ q. let told = ok q in cc
@@ -107,16 +109,16 @@ module _ {P I : Type 0} (width : Width) (value : I → ℤ) (to : P → IntPoint
   same list = copied_points width value to list (copy list) (is list)
 
   -- where all the points are safe, those of each contour are
-  pub safe_rings : (points : List P) (offsets : List ℕ) → AreRising offsets (length offsets) → AreSafeContours width at points offsets → AreSafeRings width (λ list. contour_of value (copy list)) points offsets
+  pub safe_rings : (points : List P) (offsets : List ℕ) → AreRising offsets (length offsets) → AreSafeContours width at points offsets → AreSafeRings width (read value copy) points offsets
   safe_rings points offsets order safe k less =
       let part = nth_contour points offsets k in
       safe_contour width value to part (copy part) (is part) (safe_part width at points offsets k (k + 1) order (omega arith) less safe)
 
   -- contours that a cleaner leaves are cleaned
-  pub cleaned_batch : (Answer Kept : List Point → Option (List Point) → Type 0) (Picks : List P → List P → Type 0) (points : List P) (offsets : List ℕ) (old_points new_points : List P) (old_offsets new_offsets : List ℕ) (n : ℕ)
-      → AreCleanedRings (Leaves Answer Kept Picks width (λ list. contour_of value (copy list))) points offsets old_points new_points old_offsets new_offsets n
-      → IsCleanedBatch Answer Kept width at points offsets old_points new_points old_offsets new_offsets n
-  cleaned_batch Answer Kept Picks points offsets old_points new_points old_offsets new_offsets n left = record {
+  pub cleaned_batch : (cleaning : Cleaning) (points : List P) (offsets : List ℕ) (old_points new_points : List P) (old_offsets new_offsets : List ℕ) (n : ℕ)
+      → AreCleanedRings (Leaves cleaning.answers cleaning.keeps (cleaning.picks P) width (read value copy)) points offsets old_points new_points old_offsets new_offsets n
+      → IsCleanedBatch cleaning width at (contour_arrays points offsets) (contour_arrays old_points old_offsets) (contour_arrays new_points new_offsets) n
+  cleaned_batch cleaning points offsets old_points new_points old_offsets new_offsets n left = record {
     first = left.first;
     order = left.order;
     last = left.last;
@@ -128,7 +130,7 @@ module _ {P I : Type 0} (width : Width) (value : I → ℤ) (to : P → IntPoint
 
   -- where contours take no memory, there is room for each that isn't clean
   pub have_room : (fewest : ℕ) (Clean : List Point → Type 0) (room : ℕ → Type 0) → ((n : ℕ) → n < fewest → room n) → (points : List P) (offsets : List ℕ) → AreSpared (TakesNoMemory fewest Clean) at points offsets
-      → HaveRoom Clean (λ list. contour_of value (copy list)) room points offsets (length offsets)
+      → HaveRoom Clean (read value copy) room points offsets (length offsets)
   have_room fewest Clean room spares points offsets none k less unclean =
       let contour = nth_contour points offsets k in
       elim (none k less) [

@@ -13,7 +13,7 @@ module _ {P I : Type 0} (width : Width) (value : I → ℤ) (to : P → IntPoint
   pub copied_points : (given : List P) (copy : List (IntPoint I)) → copy ≡ map to given → contour_of value copy ≡ map (λ p. point_of value (to p)) given
   copied_points given copy is = ap (contour_of value) is ∙ map-map (point_of value) to given
 
-  -- and as safe
+  -- points that were copied in are safe if the given ones are
   pub safe_contour : (given : List P) (copy : List (IntPoint I)) → copy ≡ map to given → AreSafe width (λ p. point_of value (to p)) given → All (IsSafe width) (contour_of value copy)
   safe_contour given copy is safe = rw (copied_points given copy is) (All-map (IsSafe width) (λ p. point_of value (to p)) given safe)
 

@@ -5,7 +5,7 @@ use Rattle.std.proofs.lemmas.List.{map-id, map-append, length-map, length-set}
 use Rattle.std.proofs.lemmas.List.FromFn.{filter_of_map_range_with_len_more}
 use Rattle.i_shape.specs.Paths.{concatenated}
 use Rattle.i_shape_c.specs.Appended.{IsPut, ends_from, AppendsRings}
-use Rattle.i_shape_c.specs.Batch.{offset}
+use Rattle.i_shape_c.specs.Batch.{contour_arrays, offset}
 use Rattle.i_shape_c.specs.declared.polygons.Counts.{Counts}
 use Rattle.i_shape_c.specs.Compacted.{has_points, is_left, shapes_left, contours_left, contours_by_shape, Indices, AreIndicesLeft}
 use Rattle.i_shape_c.proofs.Appended.{put_one, put_more, put_front, ring_put, rings_more, offsets-ends_from}
@@ -34,7 +34,7 @@ module _ (contours : List ℕ) (start k : ℕ) (order : start ≤ k) where
   pub contour_left : has_points contours k ≡ true → contours_left contours start (k + 1) ≡ contours_left contours start k ++ (k ∷ [])
   contour_left some = rw next (filter_passing (has_points contours) start (k - start) k here some)
 
-  -- and one without points
+  -- one contour more, which has no points
   pub contour_collapsed : has_points contours k ≡ false → contours_left contours start (k + 1) ≡ contours_left contours start k
   contour_collapsed none = rw next (filter_failing (has_points contours) start (k - start) k here none)
 
@@ -45,7 +45,7 @@ zero = record { points = 0; contours = 0; shapes = 0 }
 module _ (contours shapes : List ℕ) (old : Indices) where
   -- the indices of what is left of the first n polygons are written, and the offsets behind the first, which is 0
   pub record IndicesBegun (n : ℕ) (new : Indices) (end count : ℕ) : Type 0 where
-    pub lists : AppendsRings (contours_by_shape contours shapes n) old.contours new.contours (set old.offsets 0 0) new.offsets zero (record { points = end; contours = count; shapes = 0 })
+    pub lists : AppendsRings (contours_by_shape contours shapes n) (contour_arrays old.contours (set old.offsets 0 0)) (contour_arrays new.contours new.offsets) zero (record { points = end; contours = count; shapes = 0 })
     pub numbers : IsPut 0 (shapes_left contours shapes n) old.shapes new.shapes
     pub shapes_len : length new.shapes ≡ length old.shapes
     pub fewer_contours : end + offset shapes 0 ≤ offset shapes n

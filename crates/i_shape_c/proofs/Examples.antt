@@ -9,14 +9,15 @@ use Rattle.i_shape.specs.Winding.{winding, winding_of_edge}
 use Rattle.i_shape.specs.Written.{slot, IsCleaned}
 use Rattle.i_shape_core.specs.declared.fill_rule.FillRule.TheVariants.{EvenOdd, NonZero}
 use Rattle.i_shape_c.specs.Areas.{AreHalves, AreDoubleAreaHalves, IsDoubleArea}
-use Rattle.i_shape_c.specs.Batch.{nth_contour, AreRising, PartsPoints, HasRoom, AreSafeContours, AreSpared, BatchAnswer, CleansContours}
+use Rattle.i_shape_c.specs.Batch.{contour_arrays, nth_contour, AreRising, PartsPoints, HasRoom, AreSafeContours, AreSpared, BatchAnswer, CleansContours}
+use Rattle.i_shape_c.specs.Cleaning.{Cleaning, cleaning}
 use Rattle.i_shape_c.specs.Cleaned.{AreSafe, TakesNoMemory, CleanAnswer, CleansContour}
 use Rattle.i_shape_c.specs.Codes.{code_of, IsRefusal, Refuses}
 use Rattle.i_shape_c.specs.Compacted.{Indices, CompactsShapes}
-use Rattle.i_shape_c.specs.Locations.{rule_of, IsFilledByte, FillsAnswer, FillsPoint, IsLocated, TellsEach}
+use Rattle.i_shape_c.specs.Locations.{rule_of, IsFilledByte, FillsAnswer, FillsPoint, IsLocated, query, TellsEach}
 use Rattle.i_shape_c.specs.Measures.{IsByteOf, MeasuresEach, TestsEach}
 use Rattle.i_shape_c.specs.Places.{IsFirstUnsafe, IsFirstBadOffset}
-use Rattle.i_shape_c.specs.Polygons.{parts, polygons, offsets_of, PartsPolygons, HasShapesRoom, HaveNoContours, ShapesAnswer, CleansPolygons}
+use Rattle.i_shape_c.specs.Polygons.{parts, polygons, offsets_of, PartsPolygons, HasShapesRoom, HaveNoContours, ShapesAnswer, PolygonCleaning, CleansPolygons, polygon_arrays}
 use Rattle.i_shape_c.specs.Tests.{IsTold, TestAnswer, TestsContour, TestsPoint}
 use Rattle.i_shape_c.specs.Windings.{contours_winding, WindingsAnswer, WindsAbout, WindsAboutEach}
 use Rattle.i_shape_c.specs.declared.codes.Refusal.TheVariants.{Unsafe, BadOffsets, NoMemory, NoRoom}
@@ -103,19 +104,22 @@ spared = (inl (lit< tt), long, λ k less. let first : k ≡ 0 = omega (arith, le
 abbrev Stays : List Point → Option (List Point) → Type 0
 Stays c r = r ≡ slot c
 
+abbrev staying : Cleaning
+staying = cleaning (λ c. ⊥) Stays Stays (λ P given left. given ≡ left) 3
+
 abbrev Answer : List Point → List Point → List Point → ℤ → Type 0
-Answer = CleanAnswer Stays Stays (λ given left. given ≡ left) w32 self
+Answer = CleanAnswer staying w32 self
 
 one_cleaned : Answer [] box box (pos 0) × (Answer [] box [] (pos 0) → ⊥) × (Answer box box (at 9 9 ∷ box) (pos 4) → ⊥) × (Answer box box box (negsuc 4) → ⊥) × (Answer box [] box (negsuc 0) → ⊥)
 one_cleaned = (record { fewer = lit≤ tt; picked = refl; cleaned = record { answer = refl; kept = refl; safe = tt }; rest = refl }, λ w. cc, λ w. cc, λ w. omega (arith, w.0), λ w. cc)
 
-cleans_one : CleansContour Spares Stays Stays (λ given left. given ≡ left) w32 self [] box box (pos 0) × (CleansContour Spares Stays Stays (λ given left. given ≡ left) w32 self [] box box (negsuc 2) → ⊥)
+cleans_one : CleansContour staying w32 self [] box box (pos 0) × (CleansContour staying w32 self [] box box (negsuc 2) → ⊥)
 cleans_one = (record { answer = one_cleaned.0; refuses = accepted 0 tt (lit≤ tt) none_unsafe }, λ c. c.refuses.memory refl (inl (lit< tt)))
 
 abbrev Batch : List ℕ → ℤ → Type 0
-Batch = BatchAnswer Stays Stays w32 self [] (0 ∷ 0 ∷ []) [] [] (9 ∷ 9 ∷ 9 ∷ [])
+Batch new = BatchAnswer staying w32 self (contour_arrays [] (0 ∷ 0 ∷ [])) (contour_arrays [] (9 ∷ 9 ∷ 9 ∷ [])) (contour_arrays [] new)
 
-cleans_many : CleansContours Spares Stays Stays w32 self [] (0 ∷ []) [] [] (9 ∷ []) (0 ∷ []) (pos 0) × (CleansContours Spares Stays Stays w32 self [] (0 ∷ []) [] [] (9 ∷ []) (9 ∷ []) (negsuc 2) → ⊥)
+cleans_many : CleansContours staying w32 self (contour_arrays [] (0 ∷ [])) (contour_arrays [] (9 ∷ [])) (contour_arrays [] (0 ∷ [])) (pos 0) × (CleansContours staying w32 self (contour_arrays [] (0 ∷ [])) (contour_arrays [] (9 ∷ [])) (contour_arrays [] (9 ∷ [])) (negsuc 2) → ⊥)
 cleans_many = (record { answer = record { first = refl; order = λ k less. absurd (omega (arith, less)); last = refl; fewer = lit≤ tt; cleaned = λ k less. absurd (omega (arith, less)); rest = refl; offsets_rest = refl }; refuses = accepted 0 (one_offset (lit≤ tt)) (record { points_room = lit≤ tt; offsets_room = lit≤ tt }) none_unsafe }, λ c. c.refuses.memory refl (λ k less. absurd (omega (arith, less))))
 
 each_cleaned : Batch (0 ∷ 0 ∷ 9 ∷ []) (pos 0) × (Batch (9 ∷ 9 ∷ 9 ∷ []) (pos 0) → ⊥) × (Batch (0 ∷ 0 ∷ 0 ∷ []) (pos 0) → ⊥) × (Batch (0 ∷ 0 ∷ 9 ∷ []) (negsuc 0) → ⊥)
@@ -128,8 +132,11 @@ each_cleaned = (record { first = refl; order = order; last = refl; fewer = lit�
     cleaned k less = let first : k ≡ 0 = omega (arith, less) in rw first (record { answer = refl; kept = refl; safe = tt })
 
 -- no polygon leaves none: both lists of offsets are 0 alone
+abbrev none_given : PolygonCleaning
+none_given = record { spares = HaveNoContours; gives = ListClean Stays }
+
 abbrev None_left : List ℕ → ℤ → Type 0
-None_left new = CleansPolygons HaveNoContours (ListClean Stays) w32 self [] (0 ∷ []) (0 ∷ []) [] [] (7 ∷ 9 ∷ []) new (7 ∷ []) (0 ∷ [])
+None_left new = CleansPolygons none_given w32 self (polygon_arrays [] (0 ∷ []) (0 ∷ [])) (polygon_arrays [] (7 ∷ 9 ∷ []) (7 ∷ [])) (polygon_arrays [] new (0 ∷ []))
 
 none_left : None_left (0 ∷ 9 ∷ []) (pos 0) × (None_left (0 ∷ 9 ∷ []) (negsuc 0) → ⊥) × (None_left (0 ∷ 9 ∷ []) (pos 1) → ⊥) × (None_left (0 ∷ 9 ∷ []) (negsuc 2) → ⊥)
 none_left = (
@@ -139,7 +146,7 @@ none_left = (
   λ w. w.refuses.memory refl (λ k d less. absurd (omega (arith, less))),
 )
   where
-    answer : ShapesAnswer (ListClean Stays) self [] (0 ∷ []) (0 ∷ []) [] [] (7 ∷ 9 ∷ []) (0 ∷ 9 ∷ []) (7 ∷ []) (0 ∷ []) (pos 0)
+    answer : ShapesAnswer (ListClean Stays) self (polygon_arrays [] (0 ∷ []) (0 ∷ [])) (polygon_arrays [] (7 ∷ 9 ∷ []) (7 ∷ [])) (polygon_arrays [] (0 ∷ 9 ∷ []) (0 ∷ [])) (pos 0)
     answer = record { list = []; left = ([], tt, refl); count = refl; fewer_points = lit≤ tt; fewer_contours = lit< tt; fewer_shapes = lit< tt; written = refl; rest = refl; contours_are = refl; shapes_are = refl }
 
 -- of two polygons of one contour each, the second has collapsed
@@ -163,7 +170,7 @@ compacted = (
 told : IsTold (Unit {0}) (pos 1) × (IsTold ⊥ (pos 1) → ⊥) × (IsTold (Unit {0}) (pos 0) → ⊥) × (TestAnswer ⊥ (negsuc 1) → ⊥) × IsByteOf (λ c. ⊥) box 0 × (rule_of (pos 1) ≡ Some NonZero) × (rule_of (pos 4) ≡ None)
 told = (tt, λ h. h, λ h. h tt, λ h. h, λ h. h, refl, refl)
 
-tests_each : TestsEach (λ c. ⊥) w32 self box (0 ∷ []) [] [] (pos 0) × (TestsEach (λ c. ⊥) w32 self box (0 ∷ []) [] [] (negsuc 2) → ⊥)
+tests_each : TestsEach (λ c. ⊥) w32 self (contour_arrays box (0 ∷ [])) [] [] (pos 0) × (TestsEach (λ c. ⊥) w32 self (contour_arrays box (0 ∷ [])) [] [] (negsuc 2) → ⊥)
 tests_each = (record { answer = record { each = tt; rest = refl }; refuses = accepted 0 (one_offset (lit≤ tt)) (lit≤ tt) none_unsafe }, λ t. t.refuses.memory refl tt)
 
 tested : TestsContour (λ c. ⊥) w32 self [] (pos 0) × (TestsContour (λ c. ⊥) w32 self [] (negsuc 0) → ⊥) × (TestsPoint w32 self [] (at 5 5) (pos 1) → ⊥)
@@ -171,7 +178,7 @@ unfolding Inside is_right cross
 tested = (record { answer = λ h. h; unsafe_points = (λ is. absurd (cc), λ unsafe. absurd (unsafe none_unsafe)) }, λ t. t.unsafe_points.0 refl none_unsafe, λ t. let told = t.answer in cc)
 
 abbrev Tells : List ℕ → Type 0
-Tells new = TellsEach (λ rule points offsets q x. x ≡ 7) w32 self box (0 ∷ []) (at 5 5 ∷ []) (pos 0) (9 ∷ 9 ∷ []) new (pos 0)
+Tells new = TellsEach (λ rule points offsets q x. x ≡ 7) w32 self (query box (0 ∷ []) (at 5 5 ∷ []) (pos 0)) (9 ∷ 9 ∷ []) new (pos 0)
 
 filled : FillsAnswer (Some NonZero) (pos 2) (pos 1) × (FillsAnswer (Some EvenOdd) (pos 2) (pos 1) → ⊥) × (FillsAnswer None (pos 2) (negsuc 4) → ⊥) × Tells (7 ∷ 9 ∷ []) × (Tells (7 ∷ 8 ∷ []) → ⊥)
     × FillsPoint w32 self [] (at 5 5) (pos 1) (pos 0) × (FillsPoint w32 self [] (at 5 5) (pos 1) (pos 1) → ⊥)
@@ -188,8 +195,8 @@ filled = (
 
 -- winding numbers are summed over the contours that the offsets give
 wound : (contours_winding self (box ++ box) (0 ∷ 4 ∷ 8 ∷ []) (at 5 5) ≡ pos 2) × (contours_winding self (box ++ box) (4 ∷ 8 ∷ []) (at 5 5) ≡ pos 1) × (WindsAbout w32 self [] (at 5 5) (pos 1) → ⊥)
-    × WindingsAnswer self box (0 ∷ 4 ∷ []) (at 5 5 ∷ at 15 5 ∷ []) (pos 9 ∷ pos 9 ∷ pos 9 ∷ []) (pos 1 ∷ pos 0 ∷ pos 9 ∷ []) (pos 0)
-    × WindsAboutEach w32 self box (0 ∷ []) (at 5 5 ∷ []) (pos 9 ∷ pos 9 ∷ []) (pos 0 ∷ pos 9 ∷ []) (pos 0)
+    × WindingsAnswer self (contour_arrays box (0 ∷ 4 ∷ [])) (at 5 5 ∷ at 15 5 ∷ []) (pos 9 ∷ pos 9 ∷ pos 9 ∷ []) (pos 1 ∷ pos 0 ∷ pos 9 ∷ []) (pos 0)
+    × WindsAboutEach w32 self (contour_arrays box (0 ∷ [])) (at 5 5 ∷ []) (pos 9 ∷ pos 9 ∷ []) (pos 0 ∷ pos 9 ∷ []) (pos 0)
 unfolding winding winding_of_edge is_right cross
 wound = (
   refl,
@@ -204,7 +211,7 @@ unfolding winding winding_of_edge is_right cross dot
 on_an_edge = (record { place = 0; within = lit< tt; on = record { place = 0; within = lit< tt; between = record { straight = refl; ahead = omega arith } } }, λ on. omega (arith, on.within), λ not. not (λ none. cc))
 
 abbrev Counts : List ℕ → ℤ → Type 0
-Counts = MeasuresEach (λ c n. n ≡ length c) self box (0 ∷ 3 ∷ 4 ∷ []) (9 ∷ 9 ∷ 9 ∷ [])
+Counts = MeasuresEach (λ c n. n ≡ length c) self (contour_arrays box (0 ∷ 3 ∷ 4 ∷ [])) (9 ∷ 9 ∷ 9 ∷ [])
 
 measured : Counts (3 ∷ 1 ∷ 9 ∷ []) (pos 0) × (Counts (3 ∷ 1 ∷ 8 ∷ []) (pos 0) → ⊥) × (Counts (1 ∷ 3 ∷ 9 ∷ []) (pos 0) → ⊥) × (Counts (3 ∷ 1 ∷ 9 ∷ []) (pos 1) → ⊥) × (Counts (9 ∷ 9 ∷ 9 ∷ []) (negsuc 2) → ⊥)
 measured = (

@@ -11,7 +11,7 @@ use Rattle.i_shape.specs.CanonicalShapes.{ListForm, IsShapeAtMost}
 use Rattle.i_shape.specs.ShapeAnswers.{ShapeClean, ListClean, EachShape}
 use Rattle.i_shape.proofs.lists.Surviving.{survivors_have}
 use Rattle.i_shape_c.specs.Batch.{offset, nth_contour, AreRising, PartsPoints}
-use Rattle.i_shape_c.specs.Polygons.{parts, polygons, offsets_of, HaveNoContours, AreShapesLeft}
+use Rattle.i_shape_c.specs.Polygons.{polygon_arrays, parts, polygons, offsets_of, HaveNoContours, AreShapesLeft}
 use Rattle.i_shape_c.specs.Sorted.{SortsRest, SortsPolygons, WritesSorted}
 use Rattle.i_shape_c.proofs.Appended.{length-offsets}
 use Rattle.i_shape_c.proofs.PolygonLists.{polygon_at, polygons-map, all_from}
@@ -74,7 +74,7 @@ parts_back {X} items start front rest (x ∷ xs) long is =
 
 -- what a call leaves, read back
 module _ {P : Type 0} (Form : List Point → Option (List Point) → Type 0) {at : P → Point} {points : List P} {contours shapes : List ℕ} {old_points new_points : List P} {old_contours new_contours old_shapes new_shapes : List ℕ} {n : ℕ}
-    (left : AreShapesLeft (ListClean Form) at points contours shapes old_points new_points old_contours new_contours old_shapes new_shapes n) where
+    (left : AreShapesLeft (ListClean Form) at (polygon_arrays points contours shapes) (polygon_arrays old_points old_contours old_shapes) (polygon_arrays new_points new_contours new_shapes) n) where
   abbrev pub rings : List (List Point)
   rings = concatenated left.list
 
@@ -117,8 +117,8 @@ module _ {P : Type 0} (Form : List Point → Option (List Point) → Type 0) {at
       (sym counts.1 ∙ ap (λ w. length (concatenated w)) cleaned_are, sym counts.2 ∙ ap (λ w. length (concatenated (concatenated w))) cleaned_are)
 
   -- arrays that hold them sorted hold the form of the polygons
-  pub form_written : {had_points has_points : List P} {had_contours has_contours had_shapes has_shapes : List ℕ} → WritesSorted at cleaned had_points has_points had_contours has_contours had_shapes has_shapes
-      → AreShapesLeft (ListForm Form) at points contours shapes had_points has_points had_contours has_contours had_shapes has_shapes n
+  pub form_written : {had_points has_points : List P} {had_contours has_contours had_shapes has_shapes : List ℕ} → WritesSorted at cleaned (polygon_arrays had_points had_contours had_shapes) (polygon_arrays has_points has_contours has_shapes)
+      → AreShapesLeft (ListForm Form) at (polygon_arrays points contours shapes) (polygon_arrays had_points had_contours had_shapes) (polygon_arrays has_points has_contours has_shapes) n
   form_written {had_points} {has_points} {had_contours} {has_contours} {had_shapes} {has_shapes} wrote =
       let made = map (map (map at)) wrote.list in
       let sorts = subst (λ w. SortsPolygons w made) cleaned_are wrote.sorted in
@@ -129,7 +129,7 @@ module _ {P : Type 0} (Form : List Point → Option (List Point) → Type 0) {at
       (omega (arith, counts.0, reads.0, left.count)) (omega (arith, counts.2, reads.2, left.fewer_points)) (omega (arith, counts.1, reads.1, left.fewer_contours)) (omega (arith, counts.0, reads.0, left.count, left.fewer_shapes))
 
   -- where no polygon has a contour, what is left of them is their form
-  pub none_written : HaveNoContours (polygons (map at points) contours shapes) → AreShapesLeft (ListForm Form) at points contours shapes old_points new_points old_contours new_contours old_shapes new_shapes n
+  pub none_written : HaveNoContours (polygons (map at points) contours shapes) → AreShapesLeft (ListForm Form) at (polygon_arrays points contours shapes) (polygon_arrays old_points old_contours old_shapes) (polygon_arrays new_points new_contours new_shapes) n
   none_written none = record {
     list = left.list;
     left = form_of_cleaned Form (polygons (map at points) contours shapes) left.list left.list left.left sorts;
@@ -165,7 +165,7 @@ module _ {P : Type 0} (Form : List Point → Option (List Point) → Type 0) {at
         in_order = λ i j d low high. subst (λ w. IsShapeAtMost w (get_or left.list j d)) (sym (own i d (omega (arith, low, high)))) tt;
       }
 
--- what follows from what a failed call answers
+-- if P implies Q, an error that has P has Q
 pub if_err : {A E : Type 0} {P Q : Type 0} (r : Result A E) → (P → Q) → OnErr r P → OnErr r Q
 if_err (Ok a) f h = h
 if_err (Err e) f h = f h
@@ -182,7 +182,7 @@ module _ {X : Type 0} (points : List X) (contours : List ℕ) {shapes : List ℕ
       let none : offset shapes (k + 1) - offset shapes k ≡ 0 = omega (arith, up.0, up.1, up.2, level) in
       rw none refl)
 
-  -- and where none has one, the offsets are equal
+  -- if no polygon has a contour, the offsets are equal
   pub none_level : ((k : ℕ) (d : List (List X)) → k < length (polygons points contours shapes) → get_or (polygons points contours shapes) k d ≡ []) → offset shapes 0 ≡ offset shapes (length shapes - 1)
   none_level none = go (length shapes - 1) (omega (arith, parted.some))
     where

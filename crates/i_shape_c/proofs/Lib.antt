@@ -11,5 +11,7 @@ pub mod SortedPolygons
 pub mod FormsWritten
 pub mod Windings
 pub mod Told
+pub mod RingsMoved
 pub mod Compacted
+pub mod Faults
 pub mod Examples

@@ -57,7 +57,7 @@ pub concatenated-map : {X Y : Type 0} (f : X → Y) (xs : List (List X)) → con
 concatenated-map f [] = refl
 concatenated-map f (x ∷ xs) = ap (λ w. map f x ++ w) (concatenated-map f xs) ∙ sym (map-append f x (concatenated xs))
 
--- and their offsets
+-- the offsets of lists whose items are made into others are the same
 pub offsets-map : {X Y : Type 0} (f : X → Y) (start : ℕ) (xs : List (List X)) → offsets_of start (map (map f) xs) ≡ offsets_of start xs
 offsets-map f start [] = refl
 offsets-map f start (x ∷ xs) = rw (length-map x f) (ap (λ w. start ∷ w) (offsets-map f (start + length x) xs))

@@ -14,10 +14,10 @@ use Rattle.i_shape.proofs.buffers.ShapeRanges.{slice_range-map}
 use Rattle.i_shape_core.proofs.lists.Rings.{rises_to}
 use Rattle.i_shape_core.proofs.lists.Survivors.{survivors-none, survivors-push}
 use Rattle.i_shape_c.specs.Appended.{HasPolygonsRoom, HoldsPolygons, IsReady, AppendsRings, AppendsPolygons, AppendsRingLeft, AppendsShapeLeft, WritesLeft, rings_at, polygons_of}
-use Rattle.i_shape_c.specs.Batch.{offset, nth_contour, PartsPoints, AreSafeContours}
+use Rattle.i_shape_c.specs.Batch.{contour_arrays, offset, nth_contour, PartsPoints, AreSafeContours}
 use Rattle.i_shape_c.specs.Cleaned.{AreSafe}
 use Rattle.i_shape_c.specs.Codes.{code_of, no_memory_code, IsRefusal}
-use Rattle.i_shape_c.specs.Polygons.{parts, polygons, offsets_of, PartsPolygons, HasShapesRoom, AreShapesLeft, ShapesAnswer, CleansPolygons}
+use Rattle.i_shape_c.specs.Polygons.{polygon_arrays, parts, polygons, offsets_of, PartsPolygons, HasShapesRoom, AreShapesLeft, ShapesAnswer, PolygonCleaning, CleansPolygons}
 use Rattle.i_shape_c.specs.declared.codes.Refusal.{Refusal}
 use Rattle.i_shape_c.specs.declared.codes.Refusal.TheVariants.{NoMemory}
 use Rattle.i_shape_c.specs.declared.polygons.Counts.{Counts}
@@ -58,13 +58,13 @@ module _ {P : Type 0} (Answer : List Point → Option (List Point) → Type 0) (
   pub record ShapeBegun (given : List (List P)) (old_points new_points : List P) (old_contours new_contours : List ℕ) (before after : Counts) : Type 0 where
     pub kept : List (List P)
     pub shape : ShapeClean Answer (map (map at) given) (Some (map (map at) kept))
-    pub appended : AppendsRings kept old_points new_points old_contours new_contours before after
+    pub appended : AppendsRings kept (contour_arrays old_points old_contours) (contour_arrays new_points new_contours) before after
 
   -- what is left of the first polygons is written
   pub record ShapesBegun (given : List (List (List P))) (old_points new_points : List P) (old_contours new_contours old_shapes new_shapes : List ℕ) (before after : Counts) : Type 0 where
     pub kept : List (List (List P))
     pub shapes : ListClean Answer (map (map (map at)) given) (map (map (map at)) kept)
-    pub appended : AppendsPolygons kept old_points new_points old_contours new_contours old_shapes new_shapes before after
+    pub appended : AppendsPolygons kept (polygon_arrays old_points old_contours old_shapes) (polygon_arrays new_points new_contours new_shapes) before after
 
   -- one contour more
   shape_more : (given kept : List (List P)) (ring : List P) (left : Option (List P)) → ShapeClean Answer (map (map at) given) (Some (map (map at) kept)) → Answer (map at ring) (option_map (map at) left) → 0 < length (kept ++ option_to_list left)
@@ -94,7 +94,7 @@ module _ {P : Type 0} (Answer : List Point → Option (List Point) → Type 0) (
 
   module _ (op mp np : List P) (oc mc nc : List ℕ) (before mid after : Counts) where
     -- a contour behind the first ones of its polygon
-    pub begun_more : (given : List (List P)) (ring : List P) → ShapeBegun given op mp oc mc before mid → AppendsRingLeft Answer at ring mp np mc nc mid after → before.points ≤ length op → before.contours + 1 ≤ length oc
+    pub begun_more : (given : List (List P)) (ring : List P) → ShapeBegun given op mp oc mc before mid → AppendsRingLeft Answer at ring (contour_arrays mp mc) (contour_arrays np nc) mid after → before.points ≤ length op → before.contours + 1 ≤ length oc
         → (after.contours ≡ before.contours → ⊥) → ShapeBegun (given ++ (ring ∷ [])) op np oc nc before after
     begun_more given ring begun more points_room contours_room some =
         let appended = rings_more begun.kept (option_to_list more.left) op mp np oc mc nc before mid after begun.appended more.appended points_room contours_room in
@@ -102,8 +102,8 @@ module _ {P : Type 0} (Answer : List Point → Option (List Point) → Type 0) (
         record { kept = begun.kept ++ option_to_list more.left; shape = shape_more given begun.kept ring more.left begun.shape more.answer full; appended = appended }
 
     -- a polygon of which the outer contour collapses is left out
-    pub begun_none : (given : List (List P)) (ring : List P) (rest : List (List P)) (shapes : List ℕ) → ShapeBegun given op mp oc mc before mid → AppendsRingLeft Answer at ring mp np mc nc mid after → before.points ≤ length op → before.contours + 1 ≤ length oc
-        → after.contours ≡ before.contours → AppendsShapeLeft Answer at ((given ++ (ring ∷ [])) ++ rest) op np oc nc shapes shapes before before
+    pub begun_none : (given : List (List P)) (ring : List P) (rest : List (List P)) (shapes : List ℕ) → ShapeBegun given op mp oc mc before mid → AppendsRingLeft Answer at ring (contour_arrays mp mc) (contour_arrays np nc) mid after → before.points ≤ length op → before.contours + 1 ≤ length oc
+        → after.contours ≡ before.contours → AppendsShapeLeft Answer at ((given ++ (ring ∷ [])) ++ rest) (polygon_arrays op oc shapes) (polygon_arrays np nc shapes) before before
     begun_none given ring rest shapes begun more points_room contours_room none =
         let all = rings_more begun.kept (option_to_list more.left) op mp np oc mc nc before mid after begun.appended more.appended points_room contours_room in
         let empty : length (begun.kept ++ option_to_list more.left) ≡ 0 = omega (arith, all.contours_count, none) in
@@ -120,7 +120,7 @@ module _ {P : Type 0} (Answer : List Point → Option (List Point) → Type 0) (
         }
 
     -- a polygon behind polygons
-    pub shapes_more : (given : List (List (List P))) (shape : List (List P)) (os ms ns : List ℕ) → ShapesBegun given op mp oc mc os ms before mid → AppendsShapeLeft Answer at shape mp np mc nc ms ns mid after
+    pub shapes_more : (given : List (List (List P))) (shape : List (List P)) (os ms ns : List ℕ) → ShapesBegun given op mp oc mc os ms before mid → AppendsShapeLeft Answer at shape (polygon_arrays mp mc ms) (polygon_arrays np nc ns) mid after
         → before.points ≤ length op → before.contours + 1 ≤ length oc → before.shapes + 1 ≤ length os → ShapesBegun (given ++ (shape ∷ [])) op np oc nc os ns before after
     shapes_more given shape os ms ns begun more points_room contours_room shapes_room = record {
       kept = begun.kept ++ option_to_list more.left;
@@ -157,9 +157,9 @@ module _ {P : Type 0} (at : P → Point) (list : List (List (List P))) where
 
   -- arrays that hold what is made of polygons are what a call leaves
   pub polygons_written : (Gives : List (List (List Point)) → List (List (List Point)) → Type 0) (points : List P) (contours shapes : List ℕ) (old_points new_points : List P) (old_contours new_contours old_shapes new_shapes : List ℕ) (n : ℕ)
-      → Gives (polygons (map at points) contours shapes) made → HoldsPolygons list old_points new_points old_contours new_contours old_shapes new_shapes
+      → Gives (polygons (map at points) contours shapes) made → HoldsPolygons list (polygon_arrays old_points old_contours old_shapes) (polygon_arrays new_points new_contours new_shapes)
       → length list ≡ n → length (concatenated (concatenated list)) ≤ length points → length (concatenated list) < length contours → length list < length shapes
-      → AreShapesLeft Gives at points contours shapes old_points new_points old_contours new_contours old_shapes new_shapes n
+      → AreShapesLeft Gives at (polygon_arrays points contours shapes) (polygon_arrays old_points old_contours old_shapes) (polygon_arrays new_points new_contours new_shapes) n
   polygons_written Gives points contours shapes old_points new_points old_contours new_contours old_shapes new_shapes n gives held count fewer_points fewer_contours fewer_shapes =
       let counts = read_counts in
       let points_put = put_front (concatenated (concatenated list)) old_points new_points held.points_are in
@@ -184,7 +184,7 @@ module _ {P : Type 0} (at : P → Point) (list : List (List (List P))) where
 pub spans : {n : ℕ} {offsets : List ℕ} → PartsPoints n offsets → offset offsets 0 ≤ offset offsets (length offsets - 1)
 spans {n} {offsets} part = rises_to offsets (length offsets) 0 (length offsets - 1) part.order (omega arith) (omega (arith, part.some))
 
--- and those between them rise
+-- between the first offset and the last, offsets rise
 pub offsets_rise : {n : ℕ} {offsets : List ℕ} → PartsPoints n offsets → (k : ℕ) → k + 1 < length offsets
     → (offset offsets 0 ≤ offset offsets k) × (offset offsets k ≤ offset offsets (k + 1)) × (offset offsets (k + 1) ≤ offset offsets (length offsets - 1))
 offsets_rise {n} {offsets} part k less = (
@@ -304,10 +304,10 @@ module _ {P : Type 0} (points : List P) {contours shapes : List ℕ} (parted : P
     -- the arrays hold what is left of the polygons
     pub left_written : (Answer : List Point → Option (List Point) → Type 0) (given_rings : List ℕ) (old_points new_points : List P) (old_contours new_contours old_shapes new_shapes : List ℕ) (n : ℕ)
         → given_rings ≡ rings
-        → WritesLeft Answer at (polygons_of points given_rings shapes (length shapes - 1)) (length points) (length given_rings) (length shapes) old_points new_points old_contours new_contours old_shapes new_shapes n
-        → AreShapesLeft (ListClean Answer) at points contours shapes old_points new_points old_contours new_contours old_shapes new_shapes n
+        → WritesLeft Answer at (polygon_arrays points given_rings shapes) (polygon_arrays old_points old_contours old_shapes) (polygon_arrays new_points new_contours new_shapes) n
+        → AreShapesLeft (ListClean Answer) at (polygon_arrays points contours shapes) (polygon_arrays old_points old_contours old_shapes) (polygon_arrays new_points new_contours new_shapes) n
     left_written Answer given_rings old_points new_points old_contours new_contours old_shapes new_shapes n same wrote_given =
-        let wrote = subst (λ w. WritesLeft Answer at (polygons_of points w shapes (length shapes - 1)) (length points) (length w) (length shapes) old_points new_points old_contours new_contours old_shapes new_shapes n) same wrote_given in
+        let wrote = subst (λ w. WritesLeft Answer at (polygon_arrays points w shapes) (polygon_arrays old_points old_contours old_shapes) (polygon_arrays new_points new_contours new_shapes) n) same wrote_given in
         let total = count_rings in
         polygons_written at wrote.left (ListClean Answer) points contours shapes old_points new_points old_contours new_contours old_shapes new_shapes n (rw polygons_are wrote.answer)
         wrote.written.held wrote.written.count wrote.written.fewer_points
@@ -318,23 +318,23 @@ abbrev AreRefused : {P : Type 0} → Width → (P → Point) → List P → List
 AreRefused width at points contours shapes old_points old_contours old_shapes =
     IsRefusal (PartsPolygons (length points) contours shapes) (HasShapesRoom (length points) (length contours) (length shapes) (length old_points) (length old_contours) (length old_shapes)) (AreSafeContours width at points contours)
 
--- what a call that cleans polygons answers
-module _ {P : Type 0} {Spares : List (List (List Point)) → Type 0} {Gives : List (List (List Point)) → List (List (List Point)) → Type 0} {width : Width} {at : P → Point} {points : List P} {contours shapes : List ℕ} {old_points : List P} {old_contours old_shapes : List ℕ} where
+-- what a call that cleans polygons returns
+module _ {P : Type 0} {cleaning : PolygonCleaning} {width : Width} {at : P → Point} {points : List P} {contours shapes : List ℕ} {old_points : List P} {old_contours old_shapes : List ℕ} where
   -- a refusal's code
   pub polygons_refused : (r : Refusal) → AreRefused width at points contours shapes old_points old_contours old_shapes (Some r)
-      → CleansPolygons Spares Gives width at points contours shapes old_points old_points old_contours old_contours old_shapes old_shapes (to_z w64 (of_z w64 (to_z w32 (of_z w32 (code_of r)))))
+      → CleansPolygons cleaning width at (polygon_arrays points contours shapes) (polygon_arrays old_points old_contours old_shapes) (polygon_arrays old_points old_contours old_shapes) (to_z w64 (of_z w64 (to_z w32 (of_z w32 (code_of r)))))
   polygons_refused r why = rw (code_of_64 r) (record {
-    answer = each_code (ShapesAnswer Gives at points contours shapes old_points old_points old_contours old_contours old_shapes old_shapes) r (λ n few. (few, refl, refl, refl));
+    answer = each_code (ShapesAnswer cleaning.gives at (polygon_arrays points contours shapes) (polygon_arrays old_points old_contours old_shapes) (polygon_arrays old_points old_contours old_shapes)) r (λ n few. (few, refl, refl, refl));
     refuses = refused r why;
   })
 
   module _ {new_points : List P} {new_contours new_shapes : List ℕ} (fit : AreRefused width at points contours shapes old_points old_contours old_shapes None) where
     -- how many are left
-    pub polygons_counted : (n : ℕ) → length old_shapes < 2 ^ 63 → AreShapesLeft Gives at points contours shapes old_points new_points old_contours new_contours old_shapes new_shapes n
-        → CleansPolygons Spares Gives width at points contours shapes old_points new_points old_contours new_contours old_shapes new_shapes (to_z w64 n)
+    pub polygons_counted : (n : ℕ) → length old_shapes < 2 ^ 63 → AreShapesLeft cleaning.gives at (polygon_arrays points contours shapes) (polygon_arrays old_points old_contours old_shapes) (polygon_arrays new_points new_contours new_shapes) n
+        → CleansPolygons cleaning width at (polygon_arrays points contours shapes) (polygon_arrays old_points old_contours old_shapes) (polygon_arrays new_points new_contours new_shapes) (to_z w64 n)
     polygons_counted n few left = rw (to_z_pos w64 n (omega (arith, left.fewer_shapes, fit.1.shapes_room, few))) (record { answer = left; refuses = not_refused fit n })
 
     -- or that an allocation failed
-    pub polygons_without_memory : (new_points ≡ old_points) × (new_contours ≡ old_contours) × (new_shapes ≡ old_shapes) → (Spares (polygons (map at points) contours shapes) → ⊥)
-        → CleansPolygons Spares Gives width at points contours shapes old_points new_points old_contours new_contours old_shapes new_shapes (to_z w64 (of_z w64 (to_z w32 (of_z w32 no_memory_code))))
+    pub polygons_without_memory : (new_points ≡ old_points) × (new_contours ≡ old_contours) × (new_shapes ≡ old_shapes) → (cleaning.spares (polygons (map at points) contours shapes) → ⊥)
+        → CleansPolygons cleaning width at (polygon_arrays points contours shapes) (polygon_arrays old_points old_contours old_shapes) (polygon_arrays new_points new_contours new_shapes) (to_z w64 (of_z w64 (to_z w32 (of_z w32 no_memory_code))))
     polygons_without_memory kept unspared = rw (code_of_64 NoMemory) (record { answer = (omega arith, kept.0, kept.1, kept.2); refuses = refused_memory fit unspared })

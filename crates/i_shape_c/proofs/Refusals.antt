@@ -1,4 +1,4 @@
--- Why a call is refused, and what it answers then.
+-- Why a call is refused, and the code that it then returns.
 use Rattle.std.proofs.Common.{◌≡◌, ◌↔◌, ◌<◌, ℕ, ℤ, pos, negsuc, Option, Some, None, refl, arith, to_z, of_z, FitsSigned, w32, w64}
 use Rattle.std.proofs.lemmas.Int.{to_z-of_z}
 use Rattle.i_shape_c.specs.Codes.{code_of, no_memory_code, IsRefusal, Refuses}
@@ -19,7 +19,7 @@ code_of_32 BadOffsets = refl
 code_of_32 NoMemory = refl
 code_of_32 NoRoom = refl
 
--- and so 64
+-- a code has 64 bits
 pub code_of_64 : (r : Refusal) → to_z w64 (of_z w64 (to_z w32 (of_z w32 (code_of r)))) ≡ code_of r
 code_of_64 Unsafe = refl
 code_of_64 BadOffsets = refl
@@ -43,7 +43,7 @@ pub as_is : {P : Type 0} → P ↔ P
 as_is = (λ p. p, λ p. p)
 
 module _ {Parted Room Safe Spared : Type 0} where
-  -- a refusal is answered with its code
+  -- a refusal returns its code
   pub refused : (r : Refusal) → IsRefusal Parted Room Safe (Some r) → Refuses Parted Room Safe Spared (code_of r)
   refused Unsafe why = record {
     bad_offsets = (λ is. absurd (cc), λ not. absurd (not why.0));
@@ -66,7 +66,7 @@ module _ {Parted Room Safe Spared : Type 0} where
   }
 
   module _ (fit : Parted × Room × Safe) where
-    -- refused memory is answered with its code
+    -- if memory is refused, the call returns its code
     pub refused_memory : (Spared → ⊥) → Refuses Parted Room Safe Spared no_memory_code
     refused_memory unspared = record {
       bad_offsets = (λ is. absurd (cc), λ not. absurd (not fit.0));
@@ -75,7 +75,7 @@ module _ {Parted Room Safe Spared : Type 0} where
       memory = λ is. unspared;
     }
 
-    -- a number is answered where there is no refusal
+    -- if nothing is refused, the call returns a number
     pub not_refused : (n : ℕ) → Refuses Parted Room Safe Spared (pos n)
     not_refused n = record {
       bad_offsets = (λ is. absurd (cc), λ not. absurd (not fit.0));

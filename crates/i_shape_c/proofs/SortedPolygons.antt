@@ -70,7 +70,7 @@ zip_sums R f g same (x ∷ xs) (y ∷ ys) h = omega (arith, sum_by-cons f x xs, 
 holes_sum : (f : List Point → ℕ) (s t : List (List Point)) → SortsRest (AllPairs IsAtMost) s t → sum_by f t ≡ sum_by f s
 holes_sum f s t sorts = omega (arith, sum_by-take-drop f t 1, sum_by-take-drop f s 1, ap (sum_by f) sorts.first, sum_by-IsPermutation f (drop 1 s) (drop 1 t) sorts.same)
 
--- nor does sorting polygons
+-- sorting polygons changes no sum over the contours
 polygons_sum : (f : List Point → ℕ) (s t : List (List (List Point))) → SortsPolygons s t → sum_by (sum_by f) t ≡ sum_by (sum_by f) s
 polygons_sum f s t sorts =
     let holes = zip_sums (SortsRest (AllPairs IsAtMost)) (sum_by f) (sum_by f) (holes_sum f) s sorts.holes sorts.holes_sorted in

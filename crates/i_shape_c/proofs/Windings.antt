@@ -31,14 +31,14 @@ half_more n m k sum turns a b e =
     let less = b.least in
     record { most = omega (arith, ints); least = omega (arith, ints) }
 
--- and so it fits
+-- a sum within half of the points fits
 pub half_fits : (n : ℕ) (sum : ℤ) → n < 2 ^ 64 → IsWithinHalf n sum → FitsSigned w64 sum
 half_fits n sum few half =
     let most = half.most in
     let least = half.least in
     reach-fits w64 sum (record { from = omega (arith, ints); below = omega (arith, ints) })
 
--- and isn't the code
+-- a sum within half of the points isn't the code
 pub half_apart : (n : ℕ) (sum : ℤ) → n < 2 ^ 64 → IsWithinHalf n sum → sum ≡ no_winding → ⊥
 half_apart n sum few half e =
     let most = half.most in

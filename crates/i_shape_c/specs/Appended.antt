@@ -8,18 +8,18 @@ use Rattle.i_shape.specs.Point.{Point}
 use Rattle.i_shape.specs.IntPoint.{IsSafeContour}
 use Rattle.i_shape.specs.Paths.{concatenated}
 use Rattle.i_shape.specs.ShapeAnswers.{ShapeClean, ListClean}
-use Rattle.i_shape_c.specs.Batch.{offset, nth_contour}
-use Rattle.i_shape_c.specs.Polygons.{parts, offsets_of}
+use Rattle.i_shape_c.specs.Batch.{ContourArrays, contour_arrays, offset, nth_contour}
+use Rattle.i_shape_c.specs.Polygons.{PolygonArrays, parts, offsets_of}
 use Rattle.i_shape_c.specs.declared.polygons.Counts.{Counts}
 
--- a contour can be cleaned without more memory: it is safe, where it is said to be clean it is, and where it isn't there is room for its points;
--- `read` gives the points that a list stands for
+-- a contour can be cleaned without more memory: it is safe, where it is said to be clean it is, and where it isn't
+-- there is room for its points; `read` gives the points that a list represents
 pub record IsReady {P : Type 0} (Clean : List Point → Type 0) (width : Width) (read : List P → List Point) (is_clean : Bool) (room : ℕ → Type 0) (ring : List P) : Type 0 where
   pub safe : IsSafeContour width (read ring)
   pub clean : IsTrue is_clean → Clean (read ring)
   pub reserved : (Clean (read ring) → ⊥) → room (length ring)
 
--- so can each contour that the offsets divide
+-- each contour that the offsets divide can be cleaned without more memory
 abbrev pub AreReady : {P : Type 0} → (List Point → Type 0) → Width → (List P → List Point) → Bool → (ℕ → Type 0) → List P → List ℕ → Type 0
 AreReady Clean width read all_clean room points rings = (k : ℕ) → k + 1 < length rings → IsReady Clean width read all_clean room (nth_contour points rings k)
 
@@ -37,7 +37,7 @@ pub record HasPolygonsRoom (contours shapes : List ℕ) (out_points out_contours
   pub contours_room : offset shapes (length shapes - 1) < out_contours + offset shapes 0
   pub shapes_room : length shapes ≤ out_shapes
 
--- a part stands in the new list from a place on, and the rest is as it was
+-- the new list has the part from a place on, and is otherwise as it was
 abbrev pub IsPut : {P : Type 0} → ℕ → List P → List P → List P → Type 0
 IsPut at part old new = new ≡ take at old ++ (part ++ drop (at + length part) old)
 
@@ -47,49 +47,50 @@ ends_from start [] = []
 ends_from start (part ∷ rest) = (start + length part) ∷ ends_from (start + length part) rest
 
 -- contours are written behind those that are counted before, and counted
-pub record AppendsRings {P : Type 0} (rings : List (List P)) (old_points new_points : List P) (old_contours new_contours : List ℕ) (before after : Counts) : Type 0 where
-  pub points : IsPut before.points (concatenated rings) old_points new_points
-  pub contours : IsPut (before.contours + 1) (ends_from before.points rings) old_contours new_contours
-  pub points_len : length new_points ≡ length old_points
-  pub contours_len : length new_contours ≡ length old_contours
+pub record AppendsRings {P : Type 0} (rings : List (List P)) (old new : ContourArrays P) (before after : Counts) : Type 0 where
+  pub points : IsPut before.points (concatenated rings) old.points new.points
+  pub contours : IsPut (before.contours + 1) (ends_from before.points rings) old.offsets new.offsets
+  pub points_len : length new.points ≡ length old.points
+  pub contours_len : length new.offsets ≡ length old.offsets
   pub points_count : after.points ≡ before.points + length (concatenated rings)
   pub contours_count : after.contours ≡ before.contours + length rings
 
--- so are polygons
-pub record AppendsPolygons {P : Type 0} (list : List (List (List P))) (old_points new_points : List P) (old_contours new_contours old_shapes new_shapes : List ℕ) (before after : Counts) : Type 0 where
-  pub rings : AppendsRings (concatenated list) old_points new_points old_contours new_contours before after
-  pub shapes : IsPut (before.shapes + 1) (ends_from before.contours list) old_shapes new_shapes
-  pub shapes_len : length new_shapes ≡ length old_shapes
+-- polygons are written behind those that are counted before, and counted
+pub record AppendsPolygons {P : Type 0} (list : List (List (List P))) (old new : PolygonArrays P) (before after : Counts) : Type 0 where
+  pub rings : AppendsRings (concatenated list) (contour_arrays old.points old.contours) (contour_arrays new.points new.contours) before after
+  pub shapes : IsPut (before.shapes + 1) (ends_from before.contours list) old.shapes new.shapes
+  pub shapes_len : length new.shapes ≡ length old.shapes
   pub shapes_count : after.shapes ≡ before.shapes + length list
 
 -- what is left of a contour is written behind those that are counted before, and nothing where it collapses
-pub record AppendsRingLeft {P : Type 0} (Answer : List Point → Option (List Point) → Type 0) (point : P → Point) (ring : List P) (old_points new_points : List P) (old_contours new_contours : List ℕ) (before after : Counts) : Type 0 where
+pub record AppendsRingLeft {P : Type 0} (Answer : List Point → Option (List Point) → Type 0) (point : P → Point) (ring : List P) (old new : ContourArrays P) (before after : Counts) : Type 0 where
   pub left : Option (List P)
   pub answer : Answer (map point ring) (option_map (map point) left)
-  pub appended : AppendsRings (option_to_list left) old_points new_points old_contours new_contours before after
+  pub appended : AppendsRings (option_to_list left) old new before after
 
 -- so is what is left of a polygon
-pub record AppendsShapeLeft {P : Type 0} (Answer : List Point → Option (List Point) → Type 0) (point : P → Point) (shape : List (List P)) (old_points new_points : List P) (old_contours new_contours old_shapes new_shapes : List ℕ) (before after : Counts) : Type 0 where
+pub record AppendsShapeLeft {P : Type 0} (Answer : List Point → Option (List Point) → Type 0) (point : P → Point) (shape : List (List P)) (old new : PolygonArrays P) (before after : Counts) : Type 0 where
   pub left : Option (List (List P))
   pub answer : ShapeClean Answer (map (map point) shape) (option_map (map (map point)) left)
-  pub appended : AppendsPolygons (option_to_list left) old_points new_points old_contours new_contours old_shapes new_shapes before after
+  pub appended : AppendsPolygons (option_to_list left) old new before after
 
 -- the three arrays hold the polygons from the start on
-pub record HoldsPolygons {P : Type 0} (list : List (List (List P))) (old_points new_points : List P) (old_contours new_contours old_shapes new_shapes : List ℕ) : Type 0 where
-  pub points_are : IsPut 0 (concatenated (concatenated list)) old_points new_points
-  pub contours_are : IsPut 0 (offsets_of 0 (concatenated list)) old_contours new_contours
-  pub shapes_are : IsPut 0 (offsets_of 0 list) old_shapes new_shapes
+pub record HoldsPolygons {P : Type 0} (list : List (List (List P))) (old new : PolygonArrays P) : Type 0 where
+  pub points_are : IsPut 0 (concatenated (concatenated list)) old.points new.points
+  pub contours_are : IsPut 0 (offsets_of 0 (concatenated list)) old.contours new.contours
+  pub shapes_are : IsPut 0 (offsets_of 0 list) old.shapes new.shapes
 
--- the three arrays hold the polygons, which are n; there are no more of them, of their contours and of their points than so many
-pub record WritesPolygons {P : Type 0} (list : List (List (List P))) (points rings shapes : ℕ) (old_points new_points : List P) (old_contours new_contours old_shapes new_shapes : List ℕ) (n : ℕ) : Type 0 where
-  pub held : HoldsPolygons list old_points new_points old_contours new_contours old_shapes new_shapes
+-- the three arrays hold the polygons, which are n; there are no more of them, of their contours and of their points
+-- than so many
+pub record WritesPolygons {P : Type 0} (list : List (List (List P))) (points rings shapes : ℕ) (old new : PolygonArrays P) (n : ℕ) : Type 0 where
+  pub held : HoldsPolygons list old new
   pub count : length list ≡ n
   pub fewer_points : length (concatenated (concatenated list)) ≤ points
   pub fewer_contours : length (concatenated list) < rings
   pub fewer_shapes : length list < shapes
 
--- they hold what is left of the given polygons
-pub record WritesLeft {P : Type 0} (Answer : List Point → Option (List Point) → Type 0) (point : P → Point) (given : List (List (List P))) (points rings shapes : ℕ) (old_points new_points : List P) (old_contours new_contours old_shapes new_shapes : List ℕ) (n : ℕ) : Type 0 where
+-- they hold what is left of the given polygons, whose contours' offsets begin with those of the first polygon
+pub record WritesLeft {P : Type 0} (Answer : List Point → Option (List Point) → Type 0) (point : P → Point) (given old new : PolygonArrays P) (n : ℕ) : Type 0 where
   pub left : List (List (List P))
-  pub answer : ListClean Answer (map (map (map point)) given) (map (map (map point)) left)
-  pub written : WritesPolygons left points rings shapes old_points new_points old_contours new_contours old_shapes new_shapes n
+  pub answer : ListClean Answer (map (map (map point)) (polygons_of given.points given.contours given.shapes (length given.shapes - 1))) (map (map (map point)) left)
+  pub written : WritesPolygons left (length given.points) (length given.contours) (length given.shapes) old new n

@@ -1,12 +1,22 @@
 -- Many contours in one array of points, divided by offsets.
-use Rattle.std.specs.Prelude.{◌≡◌, ℕ, ℤ, ◌+◌, ◌-◌, ◌<◌, ◌≤◌, pos, negsuc, List, map, length, slice_range, Option}
+use Rattle.std.specs.Prelude.{◌≡◌, ℕ, ℤ, ◌+◌, ◌-◌, ◌<◌, ◌≤◌, pos, negsuc, List, map, length, slice_range}
 use Rattle.std.specs.Int.{Width}
 use Rattle.i_shape.specs.Point.{Point}
 use Rattle.i_shape.specs.Written.{slot, IsCleaned}
 use Rattle.i_shape_core.specs.Rings.{AreCleanedRings}
 pub use Rattle.i_shape_core.specs.Rings.{offset, nth_ring as nth_contour, AreRising, PartsPoints}
-use Rattle.i_shape_c.specs.Cleaned.{AreSafe}
+use Rattle.i_shape_c.specs.Cleaned.{AreSafe, TakesNoMemory}
+use Rattle.i_shape_c.specs.Cleaning.{Cleaning}
 use Rattle.i_shape_c.specs.Codes.{Refuses}
+
+-- points, and the offsets that divide them into contours
+pub record ContourArrays (P : Type 0) : Type 0 where
+  pub points : List P
+  pub offsets : List ℕ
+
+-- these two arrays
+abbrev pub contour_arrays : {P : Type 0} → List P → List ℕ → ContourArrays P
+contour_arrays points offsets = record { points = points; offsets = offsets }
 
 -- there is room for as many points and offsets
 pub record HasRoom (points offsets out_points out_offsets : ℕ) : Type 0 where
@@ -23,24 +33,23 @@ AreSpared Spares point points offsets = (k : ℕ) → k + 1 < length offsets →
 
 -- each contour that the new offsets give is what the cleaner makes of the given one at the same index, empty where that
 -- collapses; there are n points in all, and what follows them and the offsets is unchanged
-abbrev pub IsCleanedBatch : {P : Type 0} → (List Point → Option (List Point) → Type 0) → (List Point → Option (List Point) → Type 0) → Width → (P → Point) → List P → List ℕ → List P → List P → List ℕ → List ℕ → ℕ → Type 0
-IsCleanedBatch Answer Kept width point = AreCleanedRings (λ given left. IsCleaned Answer Kept width (map point given) (slot (map point left)))
+abbrev pub IsCleanedBatch : {P : Type 0} → Cleaning → Width → (P → Point) → ContourArrays P → ContourArrays P → ContourArrays P → ℕ → Type 0
+IsCleanedBatch cleaning width point given old new =
+    AreCleanedRings (λ contour left. IsCleaned cleaning.answers cleaning.keeps width (map point contour) (slot (map point left))) given.points given.offsets old.points new.points old.offsets new.offsets
 
 -- nothing is written
-pub record IsUntouched {P : Type 0} (old_points new_points : List P) (old_offsets new_offsets : List ℕ) : Type 0 where
-  pub points : new_points ≡ old_points
-  pub offsets : new_offsets ≡ old_offsets
+pub record IsUntouched {P : Type 0} (old new : ContourArrays P) : Type 0 where
+  pub points : new.points ≡ old.points
+  pub offsets : new.offsets ≡ old.offsets
 
 -- the number of points that are written, or a code with nothing written
-abbrev pub BatchAnswer : {P : Type 0} → (List Point → Option (List Point) → Type 0) → (List Point → Option (List Point) → Type 0) → Width → (P → Point) → List P → List ℕ → List P → List P → List ℕ → List ℕ → ℤ → Type 0
-BatchAnswer Answer Kept width point points offsets old_points new_points old_offsets new_offsets (pos n) =
-    IsCleanedBatch Answer Kept width point points offsets old_points new_points old_offsets new_offsets n
-BatchAnswer Answer Kept width point points offsets old_points new_points old_offsets new_offsets (negsuc n) = (n < 4) × IsUntouched old_points new_points old_offsets new_offsets
+abbrev pub BatchAnswer : {P : Type 0} → Cleaning → Width → (P → Point) → ContourArrays P → ContourArrays P → ContourArrays P → ℤ → Type 0
+BatchAnswer cleaning width point given old new (pos n) = IsCleanedBatch cleaning width point given old new n
+BatchAnswer cleaning width point given old new (negsuc n) = (n < 4) × IsUntouched old new
 
 -- what a call that cleans many contours returns and leaves, and exactly when it returns a code: never that of a failed
--- allocation where `Spares` holds of each contour
-pub record CleansContours {P : Type 0} (Spares : List Point → Type 0) (Answer Kept : List Point → Option (List Point) → Type 0) (width : Width) (point : P → Point) (points : List P) (offsets : List ℕ)
-    (old_points new_points : List P) (old_offsets new_offsets : List ℕ) (result : ℤ) : Type 0 where
-  pub answer : BatchAnswer Answer Kept width point points offsets old_points new_points old_offsets new_offsets result
-  pub refuses : Refuses (PartsPoints (length points) offsets) (HasRoom (length points) (length offsets) (length old_points) (length old_offsets)) (AreSafeContours width point points offsets)
-      (AreSpared Spares point points offsets) result
+-- allocation where each contour takes no memory
+pub record CleansContours {P : Type 0} (cleaning : Cleaning) (width : Width) (point : P → Point) (given old new : ContourArrays P) (result : ℤ) : Type 0 where
+  pub answer : BatchAnswer cleaning width point given old new result
+  pub refuses : Refuses (PartsPoints (length given.points) given.offsets) (HasRoom (length given.points) (length given.offsets) (length old.points) (length old.offsets)) (AreSafeContours width point given.points given.offsets)
+      (AreSpared (TakesNoMemory cleaning.fewest cleaning.clean) point given.points given.offsets) result

@@ -1,10 +1,11 @@
 -- What the calls that clean one contour return.
-use Rattle.std.specs.Prelude.{◌≡◌, ◌<◌, ◌≤◌, ◌⊎◌, ℕ, ℤ, pos, negsuc, List, length, map, Option}
+use Rattle.std.specs.Prelude.{◌≡◌, ◌<◌, ◌≤◌, ◌⊎◌, ℕ, ℤ, pos, negsuc, List, length, map}
 use Rattle.i_shape.specs.Point.{Point}
 use Rattle.std.specs.Int.{Width}
 use Rattle.std.specs.List.{All}
 use Rattle.i_shape.specs.IntPoint.{IsSafe}
 use Rattle.i_shape.specs.Written.{IsWritten}
+use Rattle.i_shape_c.specs.Cleaning.{Cleaning}
 use Rattle.i_shape_c.specs.Codes.{Refuses}
 
 -- the contour is clean or has fewer than `fewest` points
@@ -16,12 +17,12 @@ abbrev pub AreSafe : {P : Type 0} → Width → (P → Point) → List P → Typ
 AreSafe width point points = All (λ p. IsSafe width (point p)) points
 
 -- the number of points that are written, or a code with nothing written
-abbrev pub CleanAnswer : {P : Type 0} → (List Point → Option (List Point) → Type 0) → (List Point → Option (List Point) → Type 0) → (List P → List P → Type 0) → Width → (P → Point) → List P → List P → List P → ℤ → Type 0
-CleanAnswer Answer Kept Picks width point given old new (pos n) = IsWritten Answer Kept Picks width (map point) given old new n
-CleanAnswer Answer Kept Picks width point given old new (negsuc n) = (n < 4) × (new ≡ old)
+abbrev pub CleanAnswer : {P : Type 0} → Cleaning → Width → (P → Point) → List P → List P → List P → ℤ → Type 0
+CleanAnswer {P} cleaning width point given old new (pos n) = IsWritten cleaning.answers cleaning.keeps (cleaning.picks P) width (map point) given old new n
+CleanAnswer {P} cleaning width point given old new (negsuc n) = (n < 4) × (new ≡ old)
 
--- what a call that cleans one contour returns and leaves, and exactly when it returns a code: it has no offsets, and never
--- returns the code of a failed allocation for a contour of which `Spares` holds
-pub record CleansContour {P : Type 0} (Spares : List Point → Type 0) (Answer Kept : List Point → Option (List Point) → Type 0) (Picks : List P → List P → Type 0) (width : Width) (point : P → Point) (given old new : List P) (result : ℤ) : Type 0 where
-  pub answer : CleanAnswer Answer Kept Picks width point given old new result
-  pub refuses : Refuses (Unit {0}) (length given ≤ length old) (AreSafe width point given) (Spares (map point given)) result
+-- what a call that cleans one contour returns and leaves, and exactly when it returns a code: it has no offsets, and
+-- never returns the code of a failed allocation for a contour that takes no memory
+pub record CleansContour {P : Type 0} (cleaning : Cleaning) (width : Width) (point : P → Point) (given old new : List P) (result : ℤ) : Type 0 where
+  pub answer : CleanAnswer cleaning width point given old new result
+  pub refuses : Refuses (Unit {0}) (length given ≤ length old) (AreSafe width point given) (TakesNoMemory cleaning.fewest cleaning.clean (map point given)) result

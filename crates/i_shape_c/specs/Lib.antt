@@ -1,5 +1,6 @@
 pub mod Points
 pub mod Codes
+pub mod Cleaning
 pub mod Cleaned
 pub mod Batch
 pub mod Places
@@ -12,3 +13,5 @@ pub mod Areas
 pub mod Windings
 pub mod Measures
 pub mod Locations
+pub mod Contacts
+pub mod Validity

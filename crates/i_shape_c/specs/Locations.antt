@@ -62,13 +62,26 @@ pub record AreTold {P X : Type 0} (Gives : Point → X → Type 0) (point : P �
   pub each : AllZip (λ q. Gives (point q)) about (take (length about) new)
   pub rest : drop (length about) new ≡ drop (length about) old
 
+-- what a call is asked about many points: points and the offsets that divide them into contours, the points that it is
+-- asked about, and the code of a fill rule
+pub record Query (P : Type 0) : Type 0 where
+  pub points : List P
+  pub offsets : List ℕ
+  pub about : List P
+  pub rule : ℤ
+
+-- a query of these parts
+abbrev pub query : {P : Type 0} → List P → List ℕ → List P → ℤ → Query P
+query points offsets about rule = record { points = points; offsets = offsets; about = about; rule = rule }
+
 -- 0 and an item for each point, or a code with nothing written
-abbrev pub TellsAnswer : {P X : Type 0} → (FillRule → List P → List ℕ → Point → X → Type 0) → (P → Point) → List P → List ℕ → List P → ℤ → List X → List X → ℤ → Type 0
-TellsAnswer Gives point points offsets about rule old new (pos zero) = IfSome (rule_of rule) (λ r. AreTold (Gives r points offsets) point about old new)
-TellsAnswer Gives point points offsets about rule old new (pos (suc n)) = ⊥
-TellsAnswer Gives point points offsets about rule old new (negsuc n) = (n < 4) × (new ≡ old)
+abbrev pub TellsAnswer : {P X : Type 0} → (FillRule → List P → List ℕ → Point → X → Type 0) → (P → Point) → Query P → List X → List X → ℤ → Type 0
+TellsAnswer Gives point asked old new (pos zero) = IfSome (rule_of asked.rule) (λ r. AreTold (Gives r asked.points asked.offsets) point asked.about old new)
+TellsAnswer Gives point asked old new (pos (suc n)) = ⊥
+TellsAnswer Gives point asked old new (negsuc n) = (n < 4) × (new ≡ old)
 
 -- what a call writes for each of many points, and exactly when it returns which code: none for memory
-pub record TellsEach {P X : Type 0} (Gives : FillRule → List P → List ℕ → Point → X → Type 0) (width : Width) (point : P → Point) (points : List P) (offsets : List ℕ) (about : List P) (rule : ℤ) (old new : List X) (result : ℤ) : Type 0 where
-  pub answer : TellsAnswer Gives point points offsets about rule old new result
-  pub refuses : Refuses ((rule_of rule ≢ None) × PartsPoints (length points) offsets) (length about ≤ length old) (AreSafeContours width point points offsets × AreSafe width point about) (Unit {0}) result
+pub record TellsEach {P X : Type 0} (Gives : FillRule → List P → List ℕ → Point → X → Type 0) (width : Width) (point : P → Point) (asked : Query P) (old new : List X) (result : ℤ) : Type 0 where
+  pub answer : TellsAnswer Gives point asked old new result
+  pub refuses : Refuses ((rule_of asked.rule ≢ None) × PartsPoints (length asked.points) asked.offsets) (length asked.about ≤ length old)
+      (AreSafeContours width point asked.points asked.offsets × AreSafe width point asked.about) (Unit {0}) result

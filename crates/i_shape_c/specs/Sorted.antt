@@ -6,7 +6,7 @@ use Rattle.i_shape.specs.Canonical.{IsAtMost}
 use Rattle.i_shape.specs.CanonicalShapes.{IsShapeAtMost}
 use Rattle.i_shape_c.specs.Appended.{HoldsPolygons}
 use Rattle.i_shape_c.specs.Batch.{offset}
-use Rattle.i_shape_c.specs.Polygons.{parts}
+use Rattle.i_shape_c.specs.Polygons.{PolygonArrays, parts}
 
 -- the first item stays, and the others are sorted
 pub record SortsRest {X : Type 0} (Sorted : List X → Type 0) (old new : List X) : Type 0 where
@@ -28,7 +28,7 @@ pub record SortsPolygons (given sorted : List (List (List Point))) : Type 0 wher
   pub in_order : AllPairs IsShapeAtMost sorted
 
 -- the three arrays hold the sorted polygons from the start on
-pub record WritesSorted {P : Type 0} (point : P → Point) (given : List (List (List P))) (old_points new_points : List P) (old_contours new_contours old_shapes new_shapes : List ℕ) : Type 0 where
+pub record WritesSorted {P : Type 0} (point : P → Point) (given : List (List (List P))) (old new : PolygonArrays P) : Type 0 where
   pub list : List (List (List P))
   pub sorted : SortsPolygons (map (map (map point)) given) (map (map (map point)) list)
-  pub held : HoldsPolygons list old_points new_points old_contours new_contours old_shapes new_shapes
+  pub held : HoldsPolygons list old new

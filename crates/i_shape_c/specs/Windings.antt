@@ -6,7 +6,7 @@ use Rattle.i_shape.specs.Point.{Point}
 use Rattle.i_shape.specs.IntPoint.{IsSafe}
 use Rattle.i_shape.specs.Edges.{sum_of}
 use Rattle.i_shape.specs.Winding.{winding}
-use Rattle.i_shape_c.specs.Batch.{nth_contour, PartsPoints, AreSafeContours}
+use Rattle.i_shape_c.specs.Batch.{ContourArrays, nth_contour, PartsPoints, AreSafeContours}
 use Rattle.i_shape_c.specs.Cleaned.{AreSafe}
 use Rattle.i_shape_c.specs.Codes.{Refuses}
 
@@ -20,10 +20,10 @@ abbrev pub contours_winding : {P : Type 0} → (P → Point) → List P → List
 contours_winding point points offsets p = sum_of (λ k. winding (map point (nth_contour points offsets k)) p) (range_with_len 0 (length offsets - 1))
 
 -- 0 and a number for each point, or a code with nothing written
-abbrev pub WindingsAnswer : {P : Type 0} → (P → Point) → List P → List ℕ → List P → List ℤ → List ℤ → ℤ → Type 0
-WindingsAnswer point points offsets about old new (pos zero) = new ≡ map (λ q. contours_winding point points offsets (point q)) about ++ drop (length about) old
-WindingsAnswer point points offsets about old new (pos (suc n)) = ⊥
-WindingsAnswer point points offsets about old new (negsuc n) = (n < 4) × (new ≡ old)
+abbrev pub WindingsAnswer : {P : Type 0} → (P → Point) → ContourArrays P → List P → List ℤ → List ℤ → ℤ → Type 0
+WindingsAnswer point given about old new (pos zero) = new ≡ map (λ q. contours_winding point given.points given.offsets (point q)) about ++ drop (length about) old
+WindingsAnswer point given about old new (pos (suc n)) = ⊥
+WindingsAnswer point given about old new (negsuc n) = (n < 4) × (new ≡ old)
 
 -- what a call returns for the winding number of a contour about a point, and exactly when it returns the code
 pub record WindsAbout {P : Type 0} (width : Width) (point : P → Point) (points : List P) (about : Point) (result : ℤ) : Type 0 where
@@ -32,6 +32,6 @@ pub record WindsAbout {P : Type 0} (width : Width) (point : P → Point) (points
 
 -- what a call writes for the winding numbers of contours about points, and exactly when it returns which code: none for
 -- memory
-pub record WindsAboutEach {P : Type 0} (width : Width) (point : P → Point) (points : List P) (offsets : List ℕ) (about : List P) (old new : List ℤ) (result : ℤ) : Type 0 where
-  pub answer : WindingsAnswer point points offsets about old new result
-  pub refuses : Refuses (PartsPoints (length points) offsets) (length about ≤ length old) (AreSafeContours width point points offsets × AreSafe width point about) (Unit {0}) result
+pub record WindsAboutEach {P : Type 0} (width : Width) (point : P → Point) (given : ContourArrays P) (about : List P) (old new : List ℤ) (result : ℤ) : Type 0 where
+  pub answer : WindingsAnswer point given about old new result
+  pub refuses : Refuses (PartsPoints (length given.points) given.offsets) (length about ≤ length old) (AreSafeContours width point given.points given.offsets × AreSafe width point about) (Unit {0}) result

@@ -1,7 +1,8 @@
 //! Cleaning of many contours, which lie end to end in one array. Offsets divide the array into contours.
 
 ghost use Rattle.std.specs.Prelude.{◌≡◌, ◌≤◌, ◌↔◌, ◌^◌, ◌<◌, length, IsTrue, IfOk, OnErr};
-ghost use Rattle.i_shape_c.specs.Batch.{PartsPoints, HasRoom, AreSafeContours, AreSpared, IsCleanedBatch, IsUntouched, CleansContours};
+ghost use Rattle.i_shape_c.specs.Batch.{contour_arrays, PartsPoints, HasRoom, AreSafeContours, AreSpared, IsCleanedBatch, IsUntouched, CleansContours};
+ghost use Rattle.i_shape_c.specs.Cleaning.{cleaning};
 ghost use Rattle.i_shape_c.specs.Cleaned.{TakesNoMemory, AreSafe};
 ghost use Rattle.i_shape_c.specs.Codes.{IsRefusal};
 ghost use Rattle.i_shape_c.specs.Points.{point_by};
@@ -26,9 +27,10 @@ pub fn clean_contours<P: CPoint, C: ContourCleaner>(
     out_offsets: &mut [usize],
 ) -> isize
     requires { length out_points.old < 2 ^ 63 }
-    ensures { CleansContours (TakesNoMemory C.fewest C.clean) C.answers C.keeps
-        P.Coordinate.width (point_by P.Coordinate.value P.point) points.now offsets.now
-        out_points.old out_points.new out_offsets.old out_offsets.new result }
+    ensures { CleansContours (cleaning C.clean C.answers C.keeps C.picks C.fewest)
+        P.Coordinate.width (point_by P.Coordinate.value P.point)
+        (contour_arrays points.now offsets.now) (contour_arrays out_points.old out_offsets.old)
+        (contour_arrays out_points.new out_offsets.new) result }
 {
     let has_room = has_room(
         points.len(),
@@ -77,7 +79,7 @@ pub fn refusal<P: CPoint>(
     None
 }
 
-/// Returns the same for a call that writes an item for each point of `about`.
+/// Returns why a call that writes an item for each point of `about` is refused, or `None` if it isn't.
 pub fn refusal_about<P: CPoint>(
     points: &[P],
     offsets: &[usize],
@@ -108,7 +110,11 @@ pub fn are_parted(points: usize, offsets: &[usize]) -> bool
 }
 
 /// Cleans the contours like `clean_contours`, given offsets that divide safe points, and room for as many of both.
-/// Returns how many points are written. An error leaves both arrays unchanged.
+/// Returns how many points are written.
+///
+/// # Errors
+///
+/// `OutOfMemory`, which leaves both arrays unchanged.
 pub fn clean_all<P: CPoint, C: ContourCleaner>(
     alloc: Global,
     points: &[P],
@@ -122,11 +128,13 @@ pub fn clean_all<P: CPoint, C: ContourCleaner>(
     requires points_safe { AreSafeContours P.Coordinate.width
         (point_by P.Coordinate.value P.point) points.now offsets.now }
     ensures ok { IfOk result
-        (IsCleanedBatch C.answers C.keeps P.Coordinate.width
-        (point_by P.Coordinate.value P.point) points.now
-        offsets.now out_points.old out_points.new out_offsets.old out_offsets.new) }
+        (IsCleanedBatch (cleaning C.clean C.answers C.keeps C.picks C.fewest) P.Coordinate.width
+        (point_by P.Coordinate.value P.point) (contour_arrays points.now offsets.now)
+        (contour_arrays out_points.old out_offsets.old)
+        (contour_arrays out_points.new out_offsets.new)) }
     ensures err { OnErr result
-        (IsUntouched out_points.old out_points.new out_offsets.old out_offsets.new) }
+        (IsUntouched (contour_arrays out_points.old out_offsets.old)
+        (contour_arrays out_points.new out_offsets.new)) }
     ensures memory { OnErr result
         (AreSpared (TakesNoMemory C.fewest C.clean) (point_by P.Coordinate.value P.point)
         points.now offsets.now → ⊥) }

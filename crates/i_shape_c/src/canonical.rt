@@ -4,8 +4,9 @@ ghost use Rattle.std.specs.Prelude.{◌≡◌, ◌+◌, ◌-◌, ◌^◌, ◌<�
 ghost use Rattle.i_shape.specs.CanonicalShapes.{ListForm};
 ghost use Rattle.i_shape.specs.Paths.{concatenated};
 ghost use Rattle.i_shape_c.specs.Batch.{AreSafeContours};
+ghost use Rattle.i_shape_c.specs.Cleaning.{cleaning};
 ghost use Rattle.i_shape_c.specs.Points.{point_by};
-ghost use Rattle.i_shape_c.specs.Polygons.{polygons, HaveNoContours, PartsPolygons, HasShapesRoom, AreShapesLeft, CleansPolygons};
+ghost use Rattle.i_shape_c.specs.Polygons.{polygon_arrays, polygons, HaveNoContours, PartsPolygons, HasShapesRoom, AreShapesLeft, formed_by, CleansPolygons};
 ghost use Rattle.i_shape_c.specs.Sorted.{WritesSorted};
 
 use crate::batch::part;
@@ -29,10 +30,11 @@ pub fn form_shapes<P: CPoint, C: ContourCleaner>(
     out_shapes: &mut [usize],
 ) -> isize
     requires { length out_shapes.old < 2 ^ 63 }
-    ensures { CleansPolygons HaveNoContours (ListForm C.answers) P.Coordinate.width
-        (point_by P.Coordinate.value P.point) points.now contours.now shapes.now
-        out_points.old out_points.new out_contours.old out_contours.new
-        out_shapes.old out_shapes.new result }
+    ensures { CleansPolygons (formed_by (cleaning C.clean C.answers C.keeps C.picks C.fewest))
+        P.Coordinate.width (point_by P.Coordinate.value P.point)
+        (polygon_arrays points.now contours.now shapes.now)
+        (polygon_arrays out_points.old out_contours.old out_shapes.old)
+        (polygon_arrays out_points.new out_contours.new out_shapes.new) result }
 {
     if let Some(refusal) = refusal(
         points,
@@ -76,8 +78,9 @@ fn write_forms<P: CPoint, C: ContourCleaner>(
         (point_by P.Coordinate.value P.point) points.now contours.now }
     ensures ok { IfOk result
         (λ n. AreShapesLeft (ListForm C.answers) (point_by P.Coordinate.value P.point)
-        points.now contours.now shapes.now out_points.old out_points.new
-        out_contours.old out_contours.new out_shapes.old out_shapes.new n) }
+        (polygon_arrays points.now contours.now shapes.now)
+        (polygon_arrays out_points.old out_contours.old out_shapes.old)
+        (polygon_arrays out_points.new out_contours.new out_shapes.new) n) }
     ensures err { OnErr result ((out_points.new ≡ out_points.old)
         × (out_contours.new ≡ out_contours.old) × (out_shapes.new ≡ out_shapes.old)) }
     ensures memory { OnErr result (HaveNoContours (polygons
@@ -105,8 +108,8 @@ fn write_forms<P: CPoint, C: ContourCleaner>(
     )
 }
 
-/// Does the same by way of lists that hold the cleaned polygons. Allocates before it writes, so an error leaves the
-/// arrays unchanged.
+/// Writes what `write_forms` does, by way of lists that hold the cleaned polygons. Allocates before it writes, so an
+/// error leaves the arrays unchanged.
 fn write_sorted_forms<P: CPoint, C: ContourCleaner>(
     alloc: Global,
     points: &[P],
@@ -123,8 +126,9 @@ fn write_sorted_forms<P: CPoint, C: ContourCleaner>(
         (point_by P.Coordinate.value P.point) points.now contours.now }
     ensures ok { IfOk result
         (λ n. AreShapesLeft (ListForm C.answers) (point_by P.Coordinate.value P.point)
-        points.now contours.now shapes.now out_points.old out_points.new
-        out_contours.old out_contours.new out_shapes.old out_shapes.new n) }
+        (polygon_arrays points.now contours.now shapes.now)
+        (polygon_arrays out_points.old out_contours.old out_shapes.old)
+        (polygon_arrays out_points.new out_contours.new out_shapes.new) n) }
     ensures err { OnErr result ((out_points.new ≡ out_points.old)
         × (out_contours.new ≡ out_contours.old) × (out_shapes.new ≡ out_shapes.old)) }
 {
@@ -157,8 +161,8 @@ fn write_sorted_forms<P: CPoint, C: ContourCleaner>(
     Ok(count)
 }
 
-/// Writes the polygons, sorted, with the holes of each sorted, to the front of the three arrays. The contours are exactly
-/// those of the polygons. Allocates before it writes, so an error leaves the arrays unchanged.
+/// Writes the polygons, sorted, with the holes of each sorted, to the front of the three arrays. The contours are
+/// exactly those of the polygons. Allocates before it writes, so an error leaves the arrays unchanged.
 fn write_sorted<P: CPoint>(
     alloc: Global,
     points: &[P],
@@ -176,8 +180,9 @@ fn write_sorted<P: CPoint>(
     requires contours_room { length contours.now ≤ length out_contours.old }
     requires shapes_room { length shapes.now ≤ length out_shapes.old }
     ensures ok { OnOk result (WritesSorted (point_by P.Coordinate.value P.point)
-        (polygons points.now contours.now shapes.now) out_points.old out_points.new
-        out_contours.old out_contours.new out_shapes.old out_shapes.new) }
+        (polygons points.now contours.now shapes.now)
+        (polygon_arrays out_points.old out_contours.old out_shapes.old)
+        (polygon_arrays out_points.new out_contours.new out_shapes.new)) }
     ensures err { OnErr result ((out_points.new ≡ out_points.old)
         × (out_contours.new ≡ out_contours.old) × (out_shapes.new ≡ out_shapes.old)) }
 {

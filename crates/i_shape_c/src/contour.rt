@@ -1,7 +1,8 @@
 //! Cleaning of one contour, at any width and by any cleaner.
 
 ghost use Rattle.std.specs.Prelude.{◌^◌, ◌<◌, length};
-ghost use Rattle.i_shape_c.specs.Cleaned.{TakesNoMemory, CleansContour};
+ghost use Rattle.i_shape_c.specs.Cleaning.{cleaning};
+ghost use Rattle.i_shape_c.specs.Cleaned.{CleansContour};
 ghost use Rattle.i_shape_c.specs.Points.{point_by};
 
 use crate::codes::Refusal;
@@ -18,8 +19,8 @@ pub fn clean_contour<P: CPoint, C: ContourCleaner>(
     out: &mut [P],
 ) -> isize
     requires { length out.old < 2 ^ 63 }
-    ensures { CleansContour (TakesNoMemory C.fewest C.clean) C.answers C.keeps (C.picks P)
-        P.Coordinate.width (point_by P.Coordinate.value P.point) points.now out.old out.new result }
+    ensures { CleansContour (cleaning C.clean C.answers C.keeps C.picks C.fewest) P.Coordinate.width
+        (point_by P.Coordinate.value P.point) points.now out.old out.new result }
 {
     if out.len() < points.len() {
         return Refusal::NoRoom.code() as isize;

@@ -11,6 +11,10 @@ use crate::batch::part;
 use std::alloc::{AllocError, Global};
 
 /// Returns the lists into which the offsets divide the items.
+///
+/// # Errors
+///
+/// `AllocError`, if an allocation fails.
 pub fn slices<'a, T: Copy>(
     alloc: Global,
     items: &'a [T],

@@ -6,7 +6,7 @@ ghost use Rattle.i_shape.specs.Point.{Point};
 ghost use Rattle.i_shape.specs.Filling.{IsFilled};
 ghost use Rattle.i_shape_c.specs.Batch.{PartsPoints, AreSafeContours};
 ghost use Rattle.i_shape_c.specs.Cleaned.{AreSafe};
-ghost use Rattle.i_shape_c.specs.Locations.{rule_of, IsOnContours, IsFilledByte, IsLocated, AreTold, TellsEach, FillsPoint};
+ghost use Rattle.i_shape_c.specs.Locations.{query, rule_of, IsOnContours, IsFilledByte, IsLocated, AreTold, TellsEach, FillsPoint};
 ghost use Rattle.i_shape_c.specs.Points.{point_by};
 ghost use Rattle.i_shape_c.specs.Windings.{contours_winding};
 
@@ -182,7 +182,7 @@ pub fn tell_points<P: CPoint, T: Telling<P>>(
     out: &mut [T::Answer],
 ) -> i32
     ensures { TellsEach T.gives P.Coordinate.width (point_by P.Coordinate.value P.point)
-        points.now offsets.now about.now code out.old out.new result }
+        (query points.now offsets.now about.now code) out.old out.new result }
 {
     let Some(rule) = rule_of(code) else {
         return Refusal::BadOffsets.code();

@@ -1,4 +1,4 @@
-//! Tests and areas of many contours. The calls allocate nothing.
+//! Tests and areas of many contours. Only the test for simple polygons allocates.
 
 ghost use Rattle.std.specs.Prelude.{◌≡◌, ◌↔◌, ◌-◌, List, length, map, slice_range, IsTrue};
 ghost use Rattle.std.specs.Int.{int_wrap, w32, w64, w128};
@@ -7,7 +7,7 @@ ghost use Rattle.i_shape.specs.Edges.{shoelace};
 ghost use Rattle.i_shape.specs.IntPoint.{point_of, IsSafe};
 ghost use Rattle.i_shape.specs.Point.{Point};
 ghost use Rattle.i_shape_c.specs.Areas.{AreHalves};
-ghost use Rattle.i_shape_c.specs.Batch.{offset};
+ghost use Rattle.i_shape_c.specs.Batch.{contour_arrays, offset};
 ghost use Rattle.i_shape_c.specs.Measures.{AnswersEach, IsByteOf};
 ghost use Rattle.i_shape_c.specs.Points.{point_by};
 
@@ -157,7 +157,7 @@ pub fn measure_contours<P: CPoint, M: ContourMeasure<P>>(
     ensures { AnswersEach (M.gives measure)
         (All (M.asked measure) (slice_range points.now (offset offsets.now 0)
         (offset offsets.now (length offsets.now - 1)))) (point_by P.Coordinate.value P.point)
-        points.now offsets.now out.old out.new result }
+        (contour_arrays points.now offsets.now) out.old out.new result }
 {
     if !are_parted(points.len(), offsets) {
         return Refusal::BadOffsets.code();

@@ -2,13 +2,14 @@
 //! that divide the contours into polygons.
 
 ghost use Rattle.std.specs.Prelude.{◌≡◌, ◌↔◌, ◌+◌, ◌-◌, ◌^◌, ◌<◌, ◌≤◌, ℕ, length, map, IfOk, OnErr, IsTrue};
-ghost use Rattle.i_shape.specs.IntPoint.{contour_of};
+ghost use Rattle.i_shape.specs.Reading.{read};
 ghost use Rattle.i_shape.specs.ShapeAnswers.{ListClean, EachShape};
-ghost use Rattle.i_shape_c.specs.Appended.{HasPolygonsRoom, IsReady, AreReady, AppendsRingLeft, AppendsShapeLeft, WritesLeft, polygons_of};
-ghost use Rattle.i_shape_c.specs.Batch.{offset, AreRising, PartsPoints, AreSafeContours};
+ghost use Rattle.i_shape_c.specs.Appended.{HasPolygonsRoom, IsReady, AreReady, AppendsRingLeft, AppendsShapeLeft, WritesLeft};
+ghost use Rattle.i_shape_c.specs.Batch.{contour_arrays, offset, AreRising, PartsPoints, AreSafeContours};
+ghost use Rattle.i_shape_c.specs.Cleaning.{cleaning};
 ghost use Rattle.i_shape_c.specs.Cleaned.{TakesNoMemory};
 ghost use Rattle.i_shape_c.specs.Codes.{IsRefusal};
-ghost use Rattle.i_shape_c.specs.Polygons.{parts, polygons, PartsPolygons, HasShapesRoom, AreShapesLeft, CleansPolygons};
+ghost use Rattle.i_shape_c.specs.Polygons.{polygon_arrays, parts, polygons, PartsPolygons, HasShapesRoom, AreShapesLeft, cleaned_by, CleansPolygons};
 ghost use Rattle.i_shape_c.specs.Points.{point_by};
 
 use crate::batch::{self, are_parted, has_room, part};
@@ -30,10 +31,11 @@ pub fn clean_shapes<P: CPoint, C: ContourCleaner>(
     out_shapes: &mut [usize],
 ) -> isize
     requires { length out_shapes.old < 2 ^ 63 }
-    ensures { CleansPolygons (EachShape (TakesNoMemory C.fewest C.clean)) (ListClean C.answers) P.Coordinate.width
-        (point_by P.Coordinate.value P.point) points.now contours.now shapes.now
-        out_points.old out_points.new out_contours.old out_contours.new
-        out_shapes.old out_shapes.new result }
+    ensures { CleansPolygons (cleaned_by (cleaning C.clean C.answers C.keeps C.picks C.fewest))
+        P.Coordinate.width (point_by P.Coordinate.value P.point)
+        (polygon_arrays points.now contours.now shapes.now)
+        (polygon_arrays out_points.old out_contours.old out_shapes.old)
+        (polygon_arrays out_points.new out_contours.new out_shapes.new) result }
 {
     if let Some(refusal) = refusal(
         points,
@@ -111,6 +113,10 @@ fn has_shapes_room(
 
 /// Writes the cleaned polygons to the front of the three arrays. Returns how many there are. Allocates before it
 /// writes, and only if a contour that isn't clean is long enough, so an error leaves the arrays unchanged.
+///
+/// # Errors
+///
+/// `OutOfMemory`, if an allocation fails.
 pub fn write_cleaned<P: CPoint, C: ContourCleaner>(
     alloc: Global,
     points: &[P],
@@ -127,8 +133,9 @@ pub fn write_cleaned<P: CPoint, C: ContourCleaner>(
         (point_by P.Coordinate.value P.point) points.now contours.now }
     ensures ok { IfOk result
         (λ n. AreShapesLeft (ListClean C.answers) (point_by P.Coordinate.value P.point)
-        points.now contours.now shapes.now out_points.old out_points.new
-        out_contours.old out_contours.new out_shapes.old out_shapes.new n) }
+        (polygon_arrays points.now contours.now shapes.now)
+        (polygon_arrays out_points.old out_contours.old out_shapes.old)
+        (polygon_arrays out_points.new out_contours.new out_shapes.new) n) }
     ensures err { OnErr result ((out_points.new ≡ out_points.old)
         × (out_contours.new ≡ out_contours.old) × (out_shapes.new ≡ out_shapes.old)) }
     ensures memory { OnErr result (EachShape (TakesNoMemory C.fewest C.clean) (polygons
@@ -172,7 +179,7 @@ fn write_polygons<P: CPoint, C: ContourCleaner>(
 ) -> usize
     requires parted { PartsPoints (length points.now) rings.now }
     requires ready { AreReady C.clean P.Coordinate.width
-        (λ list. contour_of P.Coordinate.value (P.points list)) all_clean
+        (read P.Coordinate.value P.points) all_clean
         (C.has_room cleaner.old) points.now rings.now }
     requires shapes_some { 0 < length shapes.now }
     requires shapes_order { AreRising shapes.now (length shapes.now) }
@@ -183,9 +190,9 @@ fn write_polygons<P: CPoint, C: ContourCleaner>(
     requires contours_room { length rings.now ≤ length out_contours.old }
     requires shapes_room { length shapes.now ≤ length out_shapes.old }
     ensures { WritesLeft C.answers (point_by P.Coordinate.value P.point)
-        (polygons_of points.now rings.now shapes.now (length shapes.now - 1))
-        (length points.now) (length rings.now) (length shapes.now) out_points.old out_points.new
-        out_contours.old out_contours.new out_shapes.old out_shapes.new result }
+        (polygon_arrays points.now rings.now shapes.now)
+        (polygon_arrays out_points.old out_contours.old out_shapes.old)
+        (polygon_arrays out_points.new out_contours.new out_shapes.new) result }
 {
     out_contours[0] = 0;
     out_shapes[0] = 0;
@@ -225,15 +232,16 @@ fn append_polygon<P: CPoint, C: ContourCleaner>(
 ) -> Counts
     requires parted { PartsPoints (length points.now) rings.now }
     requires ready { AreReady C.clean P.Coordinate.width
-        (λ list. contour_of P.Coordinate.value (P.points list)) all_clean
+        (read P.Coordinate.value P.points) all_clean
         (C.has_room cleaner.old) points.now rings.now }
     requires points_room { counts.points + offset rings.now (length rings.now - 1)
         ≤ length out_points.old + offset rings.now 0 }
     requires contours_room { counts.contours + length rings.now ≤ length out_contours.old }
     requires shapes_room { counts.shapes + 1 < length out_shapes.old }
     ensures left { AppendsShapeLeft C.answers (point_by P.Coordinate.value P.point)
-        (parts points.now rings.now) out_points.old out_points.new
-        out_contours.old out_contours.new out_shapes.old out_shapes.new counts result }
+        (parts points.now rings.now)
+        (polygon_arrays out_points.old out_contours.old out_shapes.old)
+        (polygon_arrays out_points.new out_contours.new out_shapes.new) counts result }
     ensures fewer_points { result.points + offset rings.now 0
         ≤ counts.points + offset rings.now (length rings.now - 1) }
     ensures fewer_contours { result.contours < counts.contours + length rings.now }
@@ -265,13 +273,13 @@ fn append_ring<P: CPoint, C: ContourCleaner>(
     out_contours: &mut [usize],
     counts: Counts,
 ) -> Counts
-    requires ready { IsReady C.clean P.Coordinate.width
-        (λ list. contour_of P.Coordinate.value (P.points list)) is_clean
+    requires ready { IsReady C.clean P.Coordinate.width (read P.Coordinate.value P.points) is_clean
         (C.has_room cleaner.old) ring.now }
     requires points_room { counts.points + length ring.now ≤ length out_points.old }
     requires contours_room { counts.contours + 1 < length out_contours.old }
     ensures left { AppendsRingLeft C.answers (point_by P.Coordinate.value P.point) ring.now
-        out_points.old out_points.new out_contours.old out_contours.new counts result }
+        (contour_arrays out_points.old out_contours.old)
+        (contour_arrays out_points.new out_contours.new) counts result }
     ensures fewer_points { result.points ≤ counts.points + length ring.now }
     ensures fewer_contours { result.contours ≤ counts.contours + 1 }
     ensures shapes { result.shapes ≡ counts.shapes }

@@ -1,12 +1,14 @@
-//! Tests of a contour, at any width. Each returns 1 or 0, or a code below 0, and allocates nothing.
+//! Tests of a contour, at any width. Each returns 1 or 0, or a code below 0. Only that for a simple polygon allocates.
 
 ghost use Rattle.std.specs.Prelude.{◌↔◌, List, IsTrue};
 ghost use Rattle.std.specs.List.{All};
 ghost use Rattle.i_shape.specs.Contour.{IsSimple};
 ghost use Rattle.i_shape.specs.Convex.{Convex, NoSpikes};
 ghost use Rattle.i_shape.specs.Edges.{Inside};
-ghost use Rattle.i_shape.specs.IntPoint.{contour_of, point_of, IsSafe};
+ghost use Rattle.i_shape.specs.IntPoint.{point_of, IsSafe};
+ghost use Rattle.i_shape.specs.Reading.{read};
 ghost use Rattle.i_shape.specs.Point.{Point};
+ghost use Rattle.i_shape_contacts.specs.Contacts.{IsSimplePolygon};
 ghost use Rattle.i_shape_c.specs.Cleaned.{AreSafe};
 ghost use Rattle.i_shape_c.specs.Tests.{IsTold, TestsContour, TestsPoint};
 ghost use Rattle.i_shape_c.specs.Points.{point_by};
@@ -15,10 +17,12 @@ use crate::codes::Refusal;
 use crate::point::CPoint;
 use i_shape::IntNumber;
 use i_shape::int::{ContourPoint, IntPoint};
+use i_shape_contacts::is_simple_polygon;
 use i_shape_core::contour::{contains_point, is_convex};
 use i_shape_core::despike::has_no_spikes;
 use i_shape_core::safe_range::are_safe;
 use i_shape_core::simple::is_simple;
+use std::alloc::Global;
 
 /// A test of a contour of safe points.
 pub trait ContourTest<I: IntNumber>: Copy {
@@ -30,8 +34,8 @@ pub trait ContourTest<I: IntNumber>: Copy {
 
     fn test<P: ContourPoint<Coordinate = I>>(self, contour: &[P]) -> bool
         requires can { can_test self }
-        requires points_safe { All (IsSafe I.width) (contour_of I.value (P.points contour.now)) }
-        ensures { IsTrue result ↔ holds self (contour_of I.value (P.points contour.now)) };
+        requires points_safe { All (IsSafe I.width) (read I.value P.points contour.now) }
+        ensures { IsTrue result ↔ holds self (read I.value P.points contour.now) };
 }
 
 /// Whether there are at least three points, and none of them is a zero turn.
@@ -74,6 +78,23 @@ impl<I: IntNumber> ContourTest<I> for Bulging {
 
     fn test<P: ContourPoint<Coordinate = I>>(self, contour: &[P]) -> bool {
         is_convex(contour)
+    }
+}
+
+/// Whether there are at least three points, not all equal, and no two edges are in contact. Where memory is refused, the
+/// result is the same.
+#[derive(Clone, Copy)]
+pub struct SimplePolygon {
+    pub alloc: Global,
+}
+
+impl<I: IntNumber> ContourTest<I> for SimplePolygon {
+    ghost can_test = { λ test. Unit {0} };
+
+    ghost holds = { λ test. IsSimplePolygon };
+
+    fn test<P: ContourPoint<Coordinate = I>>(self, contour: &[P]) -> bool {
+        is_simple_polygon(self.alloc, contour)
     }
 }
 

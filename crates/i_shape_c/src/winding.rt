@@ -6,7 +6,7 @@ ghost use Rattle.std.specs.List.{All};
 ghost use Rattle.i_shape_core.specs.Heights.{asked_points, IsRising, IsAdded, AllFit};
 ghost use Rattle.i_shape.specs.IntPoint.{point_of, IsSafe};
 ghost use Rattle.i_shape_c.specs.Cleaned.{AreSafe};
-ghost use Rattle.i_shape_c.specs.Batch.{PartsPoints, AreSafeContours};
+ghost use Rattle.i_shape_c.specs.Batch.{contour_arrays, PartsPoints, AreSafeContours};
 ghost use Rattle.i_shape_c.specs.Windings.{contours_winding, WindsAbout, WindsAboutEach};
 ghost use Rattle.i_shape_c.specs.Points.{point_by};
 
@@ -50,7 +50,7 @@ pub fn windings<P: CPoint>(
     out: &mut [isize],
 ) -> i32
     ensures { WindsAboutEach P.Coordinate.width (point_by P.Coordinate.value P.point)
-        points.now offsets.now about.now out.old out.new result }
+        (contour_arrays points.now offsets.now) about.now out.old out.new result }
 {
     if let Some(refusal) = refusal_about(points, offsets, about, out.len()) {
         return refusal.code();

@@ -2,31 +2,35 @@
 
 ghost use Rattle.std.specs.Prelude.{◌≡◌, ◌↔◌, ◌<◌, length, map, IsTrue};
 ghost use Rattle.std.specs.Int.{w32, w64};
-ghost use Rattle.i_shape.specs.Cleaners.{SimpleAnswer, SpikelessAnswer, DespikeAnswer, KeptAnswer, IsDespikedAlready};
-ghost use Rattle.i_shape.specs.Canonical.{CanonicalAnswer, UnorientedAnswer, KeptEitherWay};
-ghost use Rattle.i_shape.specs.CanonicalShapes.{ListForm};
-ghost use Rattle.i_shape.specs.ShapeAnswers.{ListClean, EachShape};
-ghost use Rattle.i_shape.specs.Contour.{IsSimple, Sublist, RotatedSublist, SublistEitherWay};
+ghost use Rattle.i_shape.specs.Contour.{IsSimple};
 ghost use Rattle.i_shape.specs.Convex.{Convex, NoSpikes};
+ghost use Rattle.i_shape_contacts.specs.Contacts.{IsSimplePolygon};
 ghost use Rattle.i_shape_c.specs.Points.{point_i32};
-ghost use Rattle.i_shape_c.specs.Cleaned.{TakesNoMemory, AreSafe, CleansContour};
-ghost use Rattle.i_shape_c.specs.Batch.{CleansContours};
+ghost use Rattle.i_shape_c.specs.Cleaning.{simplifying, despiking, removing_spikes, canonicalizing, canonicalizing_unoriented};
+ghost use Rattle.i_shape_c.specs.Cleaned.{AreSafe, CleansContour};
+ghost use Rattle.i_shape_c.specs.Batch.{contour_arrays, CleansContours};
 ghost use Rattle.i_shape_c.specs.Areas.{IsDoubleArea};
 ghost use Rattle.i_shape_c.specs.Tests.{IsTold, TestsContour, TestsPoint};
-ghost use Rattle.i_shape_c.specs.Polygons.{HaveNoContours, CleansPolygons};
+ghost use Rattle.i_shape_c.specs.Polygons.{polygon_arrays, cleaned_by, formed_by, CleansPolygons};
 ghost use Rattle.i_shape_c.specs.Windings.{WindsAbout, WindsAboutEach};
-ghost use Rattle.i_shape_c.specs.Locations.{FillsPoint, IsFilledByte, IsLocated, TellsEach};
+ghost use Rattle.i_shape_c.specs.Locations.{query, FillsPoint, IsFilledByte, IsLocated, TellsEach};
 ghost use Rattle.i_shape_c.specs.Places.{IsFirstUnsafe};
+ghost use Rattle.i_shape_c.specs.Contacts.{FindsContact, FindsRingContact};
+ghost use Rattle.i_shape_c.specs.Validity.{FindsFaults};
 
 use crate::area::area_two;
 use crate::batch::clean_contours;
 use crate::canonical::form_shapes;
+use crate::contacts::{find_contact, find_contact_of_rings};
 use crate::contour::clean_contour;
 use crate::location::{Filled, Located, contains_by, tell_points};
 use crate::places::first_unsafe;
 use crate::point::PointI32;
 use crate::polygons::clean_shapes;
-use crate::predicates::{Bulging, Simple, Spikeless, contains, is_safe, test_contour};
+use crate::predicates::{
+    Bulging, Simple, SimplePolygon, Spikeless, contains, is_safe, test_contour,
+};
+use crate::validity::{Fault, find_faults};
 use crate::winding::{winding, windings};
 use i_shape::int::cleaner::{Canonicalizer, SpikeRemover, UnorientedCanonicalizer};
 use i_shape::int::despike::ContourDeSpiker;
@@ -41,8 +45,7 @@ pub extern "C" fn i_shape_simplify_i32(
     points: &[PointI32],
     out: &mut [PointI32],
 ) -> isize
-    ensures { CleansContour (TakesNoMemory 3 IsSimple) SimpleAnswer KeptAnswer Sublist w32 point_i32
-        points.now out.old out.new result }
+    ensures { CleansContour simplifying w32 point_i32 points.now out.old out.new result }
 {
     clean_contour::<PointI32, ContourSimplifier>(alloc, points, out)
 }
@@ -55,8 +58,7 @@ pub extern "C" fn i_shape_despike_i32(
     points: &[PointI32],
     out: &mut [PointI32],
 ) -> isize
-    ensures { CleansContour (TakesNoMemory 4 IsDespikedAlready) SpikelessAnswer KeptAnswer Sublist w32 point_i32
-        points.now out.old out.new result }
+    ensures { CleansContour despiking w32 point_i32 points.now out.old out.new result }
 {
     clean_contour::<PointI32, ContourDeSpiker>(alloc, points, out)
 }
@@ -69,8 +71,7 @@ pub extern "C" fn i_shape_canonical_i32(
     points: &[PointI32],
     out: &mut [PointI32],
 ) -> isize
-    ensures { CleansContour (TakesNoMemory 3 IsSimple) CanonicalAnswer KeptAnswer RotatedSublist w32 point_i32
-        points.now out.old out.new result }
+    ensures { CleansContour canonicalizing w32 point_i32 points.now out.old out.new result }
 {
     clean_contour::<PointI32, Canonicalizer>(alloc, points, out)
 }
@@ -84,8 +85,7 @@ pub extern "C" fn i_shape_canonical_unoriented_i32(
     points: &[PointI32],
     out: &mut [PointI32],
 ) -> isize
-    ensures { CleansContour (TakesNoMemory 3 IsSimple) UnorientedAnswer KeptEitherWay SublistEitherWay w32 point_i32
-        points.now out.old out.new result }
+    ensures { CleansContour canonicalizing_unoriented w32 point_i32 points.now out.old out.new result }
 {
     clean_contour::<PointI32, UnorientedCanonicalizer>(alloc, points, out)
 }
@@ -100,9 +100,9 @@ pub extern "C" fn i_shape_simplify_contours_i32(
     out_points: &mut [PointI32],
     out_offsets: &mut [usize],
 ) -> isize
-    ensures { CleansContours (TakesNoMemory 3 IsSimple) SimpleAnswer KeptAnswer w32 point_i32
-        points.now offsets.now
-        out_points.old out_points.new out_offsets.old out_offsets.new result }
+    ensures { CleansContours simplifying w32 point_i32 (contour_arrays points.now offsets.now)
+        (contour_arrays out_points.old out_offsets.old)
+        (contour_arrays out_points.new out_offsets.new) result }
 {
     clean_contours::<PointI32, ContourSimplifier>(alloc, points, offsets, out_points, out_offsets)
 }
@@ -117,9 +117,9 @@ pub extern "C" fn i_shape_despike_contours_i32(
     out_points: &mut [PointI32],
     out_offsets: &mut [usize],
 ) -> isize
-    ensures { CleansContours (TakesNoMemory 4 IsDespikedAlready) SpikelessAnswer KeptAnswer w32 point_i32
-        points.now offsets.now
-        out_points.old out_points.new out_offsets.old out_offsets.new result }
+    ensures { CleansContours despiking w32 point_i32 (contour_arrays points.now offsets.now)
+        (contour_arrays out_points.old out_offsets.old)
+        (contour_arrays out_points.new out_offsets.new) result }
 {
     clean_contours::<PointI32, ContourDeSpiker>(alloc, points, offsets, out_points, out_offsets)
 }
@@ -134,9 +134,9 @@ pub extern "C" fn i_shape_canonical_contours_i32(
     out_points: &mut [PointI32],
     out_offsets: &mut [usize],
 ) -> isize
-    ensures { CleansContours (TakesNoMemory 3 IsSimple) CanonicalAnswer KeptAnswer w32 point_i32
-        points.now offsets.now
-        out_points.old out_points.new out_offsets.old out_offsets.new result }
+    ensures { CleansContours canonicalizing w32 point_i32 (contour_arrays points.now offsets.now)
+        (contour_arrays out_points.old out_offsets.old)
+        (contour_arrays out_points.new out_offsets.new) result }
 {
     clean_contours::<PointI32, Canonicalizer>(alloc, points, offsets, out_points, out_offsets)
 }
@@ -151,9 +151,9 @@ pub extern "C" fn i_shape_canonical_unoriented_contours_i32(
     out_points: &mut [PointI32],
     out_offsets: &mut [usize],
 ) -> isize
-    ensures { CleansContours (TakesNoMemory 3 IsSimple) UnorientedAnswer KeptEitherWay w32 point_i32
-        points.now offsets.now
-        out_points.old out_points.new out_offsets.old out_offsets.new result }
+    ensures { CleansContours canonicalizing_unoriented w32 point_i32
+        (contour_arrays points.now offsets.now) (contour_arrays out_points.old out_offsets.old)
+        (contour_arrays out_points.new out_offsets.new) result }
 {
     clean_contours::<PointI32, UnorientedCanonicalizer>(
         alloc,
@@ -176,9 +176,10 @@ pub extern "C" fn i_shape_simplify_shapes_i32(
     out_contours: &mut [usize],
     out_shapes: &mut [usize],
 ) -> isize
-    ensures { CleansPolygons (EachShape (TakesNoMemory 3 IsSimple)) (ListClean SimpleAnswer) w32 point_i32
-        points.now contours.now shapes.now out_points.old out_points.new
-        out_contours.old out_contours.new out_shapes.old out_shapes.new result }
+    ensures { CleansPolygons (cleaned_by simplifying) w32 point_i32
+        (polygon_arrays points.now contours.now shapes.now)
+        (polygon_arrays out_points.old out_contours.old out_shapes.old)
+        (polygon_arrays out_points.new out_contours.new out_shapes.new) result }
 {
     clean_shapes::<PointI32, ContourSimplifier>(
         alloc,
@@ -203,9 +204,10 @@ pub extern "C" fn i_shape_despike_shapes_i32(
     out_contours: &mut [usize],
     out_shapes: &mut [usize],
 ) -> isize
-    ensures { CleansPolygons (EachShape (TakesNoMemory 4 NoSpikes)) (ListClean DespikeAnswer) w32 point_i32
-        points.now contours.now shapes.now out_points.old out_points.new
-        out_contours.old out_contours.new out_shapes.old out_shapes.new result }
+    ensures { CleansPolygons (cleaned_by removing_spikes) w32 point_i32
+        (polygon_arrays points.now contours.now shapes.now)
+        (polygon_arrays out_points.old out_contours.old out_shapes.old)
+        (polygon_arrays out_points.new out_contours.new out_shapes.new) result }
 {
     clean_shapes::<PointI32, SpikeRemover>(
         alloc,
@@ -229,9 +231,10 @@ pub extern "C" fn i_shape_canonical_shapes_i32(
     out_contours: &mut [usize],
     out_shapes: &mut [usize],
 ) -> isize
-    ensures { CleansPolygons HaveNoContours (ListForm CanonicalAnswer) w32 point_i32
-        points.now contours.now shapes.now out_points.old out_points.new
-        out_contours.old out_contours.new out_shapes.old out_shapes.new result }
+    ensures { CleansPolygons (formed_by canonicalizing) w32 point_i32
+        (polygon_arrays points.now contours.now shapes.now)
+        (polygon_arrays out_points.old out_contours.old out_shapes.old)
+        (polygon_arrays out_points.new out_contours.new out_shapes.new) result }
 {
     form_shapes::<PointI32, Canonicalizer>(
         alloc,
@@ -256,9 +259,10 @@ pub extern "C" fn i_shape_canonical_unoriented_shapes_i32(
     out_contours: &mut [usize],
     out_shapes: &mut [usize],
 ) -> isize
-    ensures { CleansPolygons HaveNoContours (ListForm UnorientedAnswer) w32 point_i32
-        points.now contours.now shapes.now out_points.old out_points.new
-        out_contours.old out_contours.new out_shapes.old out_shapes.new result }
+    ensures { CleansPolygons (formed_by canonicalizing_unoriented) w32 point_i32
+        (polygon_arrays points.now contours.now shapes.now)
+        (polygon_arrays out_points.old out_contours.old out_shapes.old)
+        (polygon_arrays out_points.new out_contours.new out_shapes.new) result }
 {
     form_shapes::<PointI32, UnorientedCanonicalizer>(
         alloc,
@@ -326,7 +330,7 @@ pub extern "C" fn i_shape_contains_points_i32(
     out: &mut [u8],
 ) -> i32
     ensures { TellsEach (IsFilledByte point_i32) w32 point_i32
-        points.now offsets.now about.now rule out.old out.new result }
+        (query points.now offsets.now about.now rule) out.old out.new result }
 {
     tell_points::<PointI32, Filled>(alloc, points, offsets, about, rule, out)
 }
@@ -343,7 +347,7 @@ pub extern "C" fn i_shape_locate_i32(
     out: &mut [i8],
 ) -> i32
     ensures { TellsEach (IsLocated point_i32) w32 point_i32
-        points.now offsets.now about.now rule out.old out.new result }
+        (query points.now offsets.now about.now rule) out.old out.new result }
 {
     tell_points::<PointI32, Located>(alloc, points, offsets, about, rule, out)
 }
@@ -366,8 +370,8 @@ pub extern "C" fn i_shape_windings_i32(
     about: &[PointI32],
     out: &mut [isize],
 ) -> i32
-    ensures { WindsAboutEach w32 point_i32
-        points.now offsets.now about.now out.old out.new result }
+    ensures { WindsAboutEach w32 point_i32 (contour_arrays points.now offsets.now)
+        about.now out.old out.new result }
 {
     windings(alloc, points, offsets, about, out)
 }
@@ -401,4 +405,55 @@ pub extern "C" fn i_shape_area_two_i32(points: &[PointI32], area: &mut i64) -> b
     };
     *area = twice;
     true
+}
+
+/// Returns whether the contour is the boundary of a simple polygon, that is, has at least three points, not all equal,
+/// and no two edges in contact: 1 or 0, or a code below 0.
+#[unsafe(no_mangle)]
+pub extern "C" fn i_shape_is_simple_polygon_i32(alloc: Global, points: &[PointI32]) -> i32
+    ensures { TestsContour IsSimplePolygon w32 point_i32 points.now result }
+{
+    test_contour(points, SimplePolygon { alloc })
+}
+
+/// Writes the indices of the points from which the two edges of the first contact lead. Returns 1, or 0 where there is
+/// no contact, or a code below 0.
+#[unsafe(no_mangle)]
+pub extern "C" fn i_shape_first_contact_i32(
+    alloc: Global,
+    points: &[PointI32],
+    out: &mut [usize],
+) -> i32
+    ensures { FindsContact w32 point_i32 points.now out.old out.new result }
+{
+    find_contact(alloc, points, out)
+}
+
+/// Writes the same for the contours together, within one or between two. Returns 1, or 0 where there is no contact, or a
+/// code below 0.
+#[unsafe(no_mangle)]
+pub extern "C" fn i_shape_first_contact_of_rings_i32(
+    alloc: Global,
+    points: &[PointI32],
+    offsets: &[usize],
+    out: &mut [usize],
+) -> i32
+    ensures { FindsRingContact w32 point_i32 points.now offsets.now out.old out.new result }
+{
+    find_contact_of_rings(alloc, points, offsets, out)
+}
+
+/// Writes the first fault of each polygon. Returns 0, or a code below 0.
+#[unsafe(no_mangle)]
+pub extern "C" fn i_shape_validity_shapes_i32(
+    alloc: Global,
+    points: &[PointI32],
+    contours: &[usize],
+    shapes: &[usize],
+    out: &mut [Fault],
+) -> i32
+    ensures { FindsFaults w32 point_i32 (polygon_arrays points.now contours.now shapes.now) out.old
+        out.new result }
+{
+    find_faults(alloc, points, contours, shapes, out)
 }

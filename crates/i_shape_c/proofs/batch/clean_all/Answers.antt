@@ -1,3 +1,4 @@
+use Rattle.i_shape_c.specs.Cleaning.{cleaning}
 use Rattle.i_shape_c.proofs.Batches.{safe_rings, cleaned_batch, have_room, if_ok, unless_ok}
 use Rattle.i_shape_c.proofs.batch.clean_all.Goals as goal
 
@@ -8,7 +9,7 @@ try_clean_rings-requires-clause-points_safe g c =
 pub returns-clause-ok : goal.returns-clause-ok
 returns-clause-ok g c =
     if_ok c.try_clean_rings.result (cleaned_batch g.P.Coordinate.IntNumber.width g.P.Coordinate.IntNumber.value g.P.ContourPoint.point g.P.ContourPoint.points g.P.ContourPoint.each
-    g.C.ContourCleaner.answers g.C.ContourCleaner.keeps (g.C.ContourCleaner.picks g.row.P.Denot) c.args.points.now c.args.offsets.now c.args.out_points.now c.try_clean_rings.new.out c.args.out_offsets.now c.try_clean_rings.new.out_offsets)
+    (cleaning g.C.ContourCleaner.clean g.C.ContourCleaner.answers g.C.ContourCleaner.keeps g.C.ContourCleaner.picks g.C.ContourCleaner.fewest) c.args.points.now c.args.offsets.now c.args.out_points.now c.try_clean_rings.new.out c.args.out_offsets.now c.try_clean_rings.new.out_offsets)
     c.try_clean_rings.ensures.cleaned
 
 pub returns-clause-memory : goal.returns-clause-memory

@@ -3,7 +3,7 @@ use Rattle.i_shape.specs.Paths.{concatenated}
 use Rattle.i_shape_core.proofs.lists.Rings.{rises_to}
 use Rattle.i_shape_c.specs.Batch.{offset, PartsPoints}
 use Rattle.i_shape_c.specs.Points.{point_by}
-use Rattle.i_shape_c.specs.Polygons.{polygons, offsets_of}
+use Rattle.i_shape_c.specs.Polygons.{polygon_arrays, polygons, offsets_of}
 use Rattle.i_shape_c.specs.Sorted.{WritesSorted}
 use Rattle.i_shape_c.proofs.Appended.{length-offsets}
 use Rattle.i_shape_c.proofs.PolygonsLeft.{spans}
@@ -107,4 +107,4 @@ returns-clause-ok g c =
     let at = goal.at.returns-clause-ok g c in
     let back = read_back g at.After-deref-3 (shapes_are g at.After-deref-2) (contours_back g at.After-deref-2) in
     form_written g.C.ContourCleaner.answers c.in_ok-count.ensures.ok
-    (subst (λ w. WritesSorted (point_by g.P.Coordinate.IntNumber.value g.P.ContourPoint.point) w c.args.out_points.now c.write_sorted.new.out_points c.args.out_contours.now c.write_sorted.new.out_contours c.args.out_shapes.now c.write_sorted.new.out_shapes) (same_polygons back) c.in_ok-write_sorted.ensures.ok)
+    (subst (λ w. WritesSorted (point_by g.P.Coordinate.IntNumber.value g.P.ContourPoint.point) w (polygon_arrays c.args.out_points.now c.args.out_contours.now c.args.out_shapes.now) (polygon_arrays c.write_sorted.new.out_points c.write_sorted.new.out_contours c.write_sorted.new.out_shapes)) (same_polygons back) c.in_ok-write_sorted.ensures.ok)

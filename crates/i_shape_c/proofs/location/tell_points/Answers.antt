@@ -2,7 +2,7 @@ use Rattle.std.proofs.Common.{◌≡◌, ◌∙◌, refl, ap, sym, subst, Option
 use Rattle.std.proofs.lemmas.Int.{to_z-of_z}
 use Rattle.i_shape.specs.IntPoint.{point_of}
 use Rattle.i_shape_core.specs.declared.fill_rule.FillRule.{FillRule}
-use Rattle.i_shape_c.specs.Locations.{rule_of, AreTold, TellsAnswer}
+use Rattle.i_shape_c.specs.Locations.{query, rule_of, AreTold, TellsAnswer}
 use Rattle.i_shape_c.proofs.Refusals.{each_code, code_of_32, as_is, refusal_as, refused, not_refused}
 use Rattle.i_shape_c.proofs.Told.{not_none}
 use Rattle.i_shape_c.proofs.location.tell_points.Goals as goal
@@ -13,7 +13,7 @@ returns-in-Some-refusal_about g c =
     let known : rule_of c.args.code ≡ Some c.in-Some.rule = ap rule_of (sym (to_z-of_z w32 c.args.code c.ranges.code)) ∙ sym c.rule_of.ensures ∙ c.in-Some.is in
     let r = c.in-Some-refusal_about.refusal in
     rw (c.code-in-Some-refusal_about.ensures, code_of_32 r) (record {
-      answer = each_code (TellsAnswer g.T.Telling.gives at c.args.points.now c.args.offsets.now c.args.about.now c.args.code c.args.out.now c.args.out.now) r (λ n few. (few, refl));
+      answer = each_code (TellsAnswer g.T.Telling.gives at (query c.args.points.now c.args.offsets.now c.args.about.now c.args.code) c.args.out.now c.args.out.now) r (λ n few. (few, refl));
       refuses = refused r (refusal_as (Some r) (λ parted. (not_none _ _ known, parted), λ both. both.1) as_is as_is c.in-Some-refusal_about.ensures);
     })
 

@@ -1,5 +1,6 @@
 use Rattle.std.proofs.Common.{arith}
-use Rattle.i_shape_core.proofs.Common.{Point, point_of, contour_of}
+use Rattle.i_shape_core.proofs.Common.{Point, point_of}
+use Rattle.i_shape_core.specs.Reading.{read}
 use Rattle.i_shape_core.specs.Rings.{AreSafeRings}
 use Rattle.i_shape_c.specs.Batch.{AreSpared}
 use Rattle.i_shape_c.specs.Cleaned.{TakesNoMemory}
@@ -38,7 +39,7 @@ make_room-requires-clause-points_safe g c =
 pub write_polygons-requires-clause-ready : goal.write_polygons-requires-clause-ready
 write_polygons-requires-clause-ready g c = λ k less.
     let at : g.row.P.Denot → Point = λ p. point_of g.P.Coordinate.IntNumber.value (g.P.ContourPoint.point p) in
-    let safe : AreSafeRings g.P.Coordinate.IntNumber.width (λ list. contour_of g.P.Coordinate.IntNumber.value (g.P.ContourPoint.points list)) c.args.points.now c.part-rings.result.now = rw (c.part-rings.ensures.part)
+    let safe : AreSafeRings g.P.Coordinate.IntNumber.width (read g.P.Coordinate.IntNumber.value g.P.ContourPoint.points) c.args.points.now c.part-rings.result.now = rw (c.part-rings.ensures.part)
     (safe_rings g.P.Coordinate.IntNumber.width g.P.Coordinate.IntNumber.value g.P.ContourPoint.point g.P.ContourPoint.points g.P.ContourPoint.each c.args.points.now (rings c.args.points.now c.requires.parted) (rings_parted c.args.points.now c.requires.parted).order (rings_safe c.args.points.now c.requires.parted at g.P.Coordinate.IntNumber.width c.requires.points_safe)) in
     record { safe = safe k less; clean = λ all. c.in_ok-all_clean.ensures.clean.0 all k less; reserved = c.in_ok-all_clean.ensures.memory.takes_room k less }
 

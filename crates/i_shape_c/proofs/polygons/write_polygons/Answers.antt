@@ -1,12 +1,13 @@
 use Rattle.std.proofs.Common.{◌≡◌, ◌+◌, ◌-◌, ◌++◌, ◌∙◌, ◌∷◌, [], ℕ, List, length, slice_range, set, sym, ap, subst, arith, length-set}
 use Rattle.std.proofs.lemmas.List.FromFn.{map-range_with_len_more}
-use Rattle.i_shape_core.proofs.Common.{point_of, contour_of, Point}
+use Rattle.i_shape_core.proofs.Common.{point_of, Point}
+use Rattle.i_shape_core.specs.Reading.{read}
 use Rattle.i_shape.specs.ShapeAnswers.{ShapeClean}
 use Rattle.i_shape_core.proofs.lists.Rings.{rises_to}
 use Rattle.i_shape_core.proofs.lists.Survivors.{survivors-none}
 use Rattle.i_shape_c.specs.Appended.{IsReady, AppendsShapeLeft, polygons_of, rings_at}
 use Rattle.i_shape_c.specs.Batch.{offset, nth_contour}
-use Rattle.i_shape_c.specs.Polygons.{parts}
+use Rattle.i_shape_c.specs.Polygons.{polygon_arrays, parts}
 use Rattle.i_shape_c.specs.declared.polygons.Counts.{Counts}
 use Rattle.i_shape_c.proofs.Appended.{polygons_none, rises_in, parted_in, ends_in, all_written_out}
 use Rattle.i_shape_c.proofs.PolygonsLeft.{ShapesBegun, shapes_more, ready_still, each_part}
@@ -48,11 +49,11 @@ append_polygon-counts-requires-clause-ready g c =
     let rings = c.args.rings.now in
     let shapes = c.args.shapes.now in
     let up = rises_in rings shapes c.loop-place.place c.requires.shapes_order (omega arith) c.loop-place-test.true c.requires.shapes_last in
-    let read : List g.row.P.Denot → List Point = λ list. contour_of g.P.Coordinate.IntNumber.value (g.P.ContourPoint.points list) in
+    let reading = read g.P.Coordinate.IntNumber.value g.P.ContourPoint.points in
     rw (c.part-polygon.ensures.part)
-    (each_part (IsReady g.C.ContourCleaner.clean g.P.Coordinate.IntNumber.width read c.args.all_clean (g.C.ContourCleaner.has_room c.loop-place.cleaner)) c.args.points.now rings (offset shapes (c.loop-place.place - 1) - offset shapes 0) (offset shapes c.loop-place.place - offset shapes 0 + 1)
+    (each_part (IsReady g.C.ContourCleaner.clean g.P.Coordinate.IntNumber.width reading c.args.all_clean (g.C.ContourCleaner.has_room c.loop-place.cleaner)) c.args.points.now rings (offset shapes (c.loop-place.place - 1) - offset shapes 0) (offset shapes c.loop-place.place - offset shapes 0 + 1)
     (omega (arith, up.0, up.1)) (omega (arith, up.0, up.1, up.2))
-    (λ k less. ready_still g.C.ContourCleaner.clean g.P.Coordinate.IntNumber.width read c.args.all_clean (g.C.ContourCleaner.has_room c.args.cleaner.now) (g.C.ContourCleaner.has_room c.loop-place.cleaner) (nth_contour c.args.points.now rings k)
+    (λ k less. ready_still g.C.ContourCleaner.clean g.P.Coordinate.IntNumber.width reading c.args.all_clean (g.C.ContourCleaner.has_room c.args.cleaner.now) (g.C.ContourCleaner.has_room c.loop-place.cleaner) (nth_contour c.args.points.now rings k)
     c.loop-place.invariant.keeps_room (c.requires.ready k less)))
 
 pub append_polygon-counts-requires-clause-points_room : goal.append_polygon-counts-requires-clause-points_room
@@ -91,8 +92,8 @@ loop-place-preserved g c =
     let is : parts points c.part-polygon.result.now ≡ f k = ap (parts points) (c.part-polygon.ensures.part ∙ ap (λ j. slice_range rings (offset shapes k - offset shapes 0) (offset shapes j - offset shapes 0 + 1)) (sym next)) in
     let fewer = rw (c.part-polygon.ensures.part, ends.0, ends.1) at step.ensures.fewer_points in
     let zero : Counts = record { points = 0; contours = 0; shapes = 0 } in
-    let left : AppendsShapeLeft Answer at (f k) c.loop-place.out_points step.new.out_points c.loop-place.out_contours step.new.out_contours c.loop-place.out_shapes step.new.out_shapes c.loop-place.counts step.result =
-    subst (λ w. AppendsShapeLeft Answer at w c.loop-place.out_points step.new.out_points c.loop-place.out_contours step.new.out_contours c.loop-place.out_shapes step.new.out_shapes c.loop-place.counts step.result) is step.ensures.left in
+    let left : AppendsShapeLeft Answer at (f k) (polygon_arrays c.loop-place.out_points c.loop-place.out_contours c.loop-place.out_shapes) (polygon_arrays step.new.out_points step.new.out_contours step.new.out_shapes) c.loop-place.counts step.result =
+    subst (λ w. AppendsShapeLeft Answer at w (polygon_arrays c.loop-place.out_points c.loop-place.out_contours c.loop-place.out_shapes) (polygon_arrays step.new.out_points step.new.out_contours step.new.out_shapes) c.loop-place.counts step.result) is step.ensures.left in
     record {
       begun = subst (λ w. ShapesBegun Answer at w c.args.out_points.now step.new.out_points (set c.args.out_contours.now 0 0) step.new.out_contours (set c.args.out_shapes.now 0 0) step.new.out_shapes zero step.result) (sym whole)
           (shapes_more Answer at c.args.out_points.now c.loop-place.out_points step.new.out_points (set c.args.out_contours.now 0 0) c.loop-place.out_contours step.new.out_contours zero c.loop-place.counts step.result

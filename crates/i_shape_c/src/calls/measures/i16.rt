@@ -3,6 +3,8 @@
 ghost use Rattle.std.specs.Int.{w16, w32};
 ghost use Rattle.i_shape.specs.Contour.{IsSimple};
 ghost use Rattle.i_shape.specs.Convex.{Convex, NoSpikes};
+ghost use Rattle.i_shape_contacts.specs.Contacts.{IsSimplePolygon};
+ghost use Rattle.i_shape_c.specs.Batch.{contour_arrays};
 ghost use Rattle.i_shape_c.specs.Points.{point_i16};
 ghost use Rattle.i_shape_c.specs.Areas.{IsDoubleArea};
 ghost use Rattle.i_shape_c.specs.Measures.{IsByteOf, MeasuresEach, TestsEach};
@@ -10,7 +12,8 @@ ghost use Rattle.i_shape_core.specs.IntPoint.{IsSafeContour};
 
 use crate::measures::{DoubleArea, SafeRange, Tested, measure_contours};
 use crate::point::PointI16;
-use crate::predicates::{Bulging, Simple, Spikeless};
+use crate::predicates::{Bulging, Simple, SimplePolygon, Spikeless};
+use std::alloc::Global;
 
 /// Writes the result of `i_shape_is_simple_i16` for each contour, one byte each. Returns 0, or a code below 0.
 #[unsafe(no_mangle)]
@@ -19,7 +22,8 @@ pub extern "C" fn i_shape_is_simple_contours_i16(
     offsets: &[usize],
     out: &mut [u8],
 ) -> i32
-    ensures { TestsEach IsSimple w16 point_i16 points.now offsets.now out.old out.new result }
+    ensures { TestsEach IsSimple w16 point_i16 (contour_arrays points.now offsets.now) out.old
+        out.new result }
 {
     measure_contours(points, offsets, Tested { test: Simple {} }, out)
 }
@@ -31,7 +35,8 @@ pub extern "C" fn i_shape_has_no_spikes_contours_i16(
     offsets: &[usize],
     out: &mut [u8],
 ) -> i32
-    ensures { TestsEach NoSpikes w16 point_i16 points.now offsets.now out.old out.new result }
+    ensures { TestsEach NoSpikes w16 point_i16 (contour_arrays points.now offsets.now) out.old
+        out.new result }
 {
     measure_contours(points, offsets, Tested { test: Spikeless {} }, out)
 }
@@ -43,9 +48,25 @@ pub extern "C" fn i_shape_is_convex_contours_i16(
     offsets: &[usize],
     out: &mut [u8],
 ) -> i32
-    ensures { TestsEach Convex w16 point_i16 points.now offsets.now out.old out.new result }
+    ensures { TestsEach Convex w16 point_i16 (contour_arrays points.now offsets.now) out.old out.new
+        result }
 {
     measure_contours(points, offsets, Tested { test: Bulging {} }, out)
+}
+
+/// Writes the result of `i_shape_is_simple_polygon_i16` for each contour, one byte each. Returns 0, or a code below 0.
+#[unsafe(no_mangle)]
+pub extern "C" fn i_shape_are_simple_polygons_i16(
+    alloc: Global,
+    points: &[PointI16],
+    offsets: &[usize],
+    out: &mut [u8],
+) -> i32
+    ensures { TestsEach IsSimplePolygon w16 point_i16 (contour_arrays points.now offsets.now)
+        out.old out.new result }
+{
+    let test = SimplePolygon { alloc };
+    measure_contours(points, offsets, Tested { test }, out)
 }
 
 /// Writes the result of `i_shape_is_safe_i16` for each contour, one byte each. Returns 0, or a code below 0.
@@ -56,7 +77,7 @@ pub extern "C" fn i_shape_is_safe_contours_i16(
     out: &mut [u8],
 ) -> i32
     ensures { MeasuresEach (IsByteOf (IsSafeContour w16)) point_i16
-        points.now offsets.now out.old out.new result }
+        (contour_arrays points.now offsets.now) out.old out.new result }
 {
     measure_contours(points, offsets, SafeRange {}, out)
 }
@@ -69,8 +90,8 @@ pub extern "C" fn i_shape_area_two_contours_i16(
     offsets: &[usize],
     out: &mut [i32],
 ) -> i32
-    ensures { MeasuresEach (IsDoubleArea w32) point_i16
-        points.now offsets.now out.old out.new result }
+    ensures { MeasuresEach (IsDoubleArea w32) point_i16 (contour_arrays points.now offsets.now)
+        out.old out.new result }
 {
     measure_contours(points, offsets, DoubleArea {}, out)
 }

@@ -3,6 +3,8 @@
 ghost use Rattle.std.specs.Int.{w64};
 ghost use Rattle.i_shape.specs.Contour.{IsSimple};
 ghost use Rattle.i_shape.specs.Convex.{Convex, NoSpikes};
+ghost use Rattle.i_shape_contacts.specs.Contacts.{IsSimplePolygon};
+ghost use Rattle.i_shape_c.specs.Batch.{contour_arrays};
 ghost use Rattle.i_shape_c.specs.Points.{point_i64};
 ghost use Rattle.i_shape_c.specs.Areas.{AreDoubleAreaHalves};
 ghost use Rattle.i_shape_c.specs.Measures.{IsByteOf, MeasuresEach, TestsEach};
@@ -11,7 +13,8 @@ ghost use Rattle.i_shape_core.specs.IntPoint.{IsSafeContour};
 use crate::area::Halves;
 use crate::measures::{DoubleArea, SafeRange, Tested, measure_contours};
 use crate::point::PointI64;
-use crate::predicates::{Bulging, Simple, Spikeless};
+use crate::predicates::{Bulging, Simple, SimplePolygon, Spikeless};
+use std::alloc::Global;
 
 /// Writes the result of `i_shape_is_simple_i64` for each contour, one byte each. Returns 0, or a code below 0.
 #[unsafe(no_mangle)]
@@ -20,7 +23,8 @@ pub extern "C" fn i_shape_is_simple_contours_i64(
     offsets: &[usize],
     out: &mut [u8],
 ) -> i32
-    ensures { TestsEach IsSimple w64 point_i64 points.now offsets.now out.old out.new result }
+    ensures { TestsEach IsSimple w64 point_i64 (contour_arrays points.now offsets.now) out.old
+        out.new result }
 {
     measure_contours(points, offsets, Tested { test: Simple {} }, out)
 }
@@ -32,7 +36,8 @@ pub extern "C" fn i_shape_has_no_spikes_contours_i64(
     offsets: &[usize],
     out: &mut [u8],
 ) -> i32
-    ensures { TestsEach NoSpikes w64 point_i64 points.now offsets.now out.old out.new result }
+    ensures { TestsEach NoSpikes w64 point_i64 (contour_arrays points.now offsets.now) out.old
+        out.new result }
 {
     measure_contours(points, offsets, Tested { test: Spikeless {} }, out)
 }
@@ -44,9 +49,25 @@ pub extern "C" fn i_shape_is_convex_contours_i64(
     offsets: &[usize],
     out: &mut [u8],
 ) -> i32
-    ensures { TestsEach Convex w64 point_i64 points.now offsets.now out.old out.new result }
+    ensures { TestsEach Convex w64 point_i64 (contour_arrays points.now offsets.now) out.old out.new
+        result }
 {
     measure_contours(points, offsets, Tested { test: Bulging {} }, out)
+}
+
+/// Writes the result of `i_shape_is_simple_polygon_i64` for each contour, one byte each. Returns 0, or a code below 0.
+#[unsafe(no_mangle)]
+pub extern "C" fn i_shape_are_simple_polygons_i64(
+    alloc: Global,
+    points: &[PointI64],
+    offsets: &[usize],
+    out: &mut [u8],
+) -> i32
+    ensures { TestsEach IsSimplePolygon w64 point_i64 (contour_arrays points.now offsets.now)
+        out.old out.new result }
+{
+    let test = SimplePolygon { alloc };
+    measure_contours(points, offsets, Tested { test }, out)
 }
 
 /// Writes the result of `i_shape_is_safe_i64` for each contour, one byte each. Returns 0, or a code below 0.
@@ -57,7 +78,7 @@ pub extern "C" fn i_shape_is_safe_contours_i64(
     out: &mut [u8],
 ) -> i32
     ensures { MeasuresEach (IsByteOf (IsSafeContour w64)) point_i64
-        points.now offsets.now out.old out.new result }
+        (contour_arrays points.now offsets.now) out.old out.new result }
 {
     measure_contours(points, offsets, SafeRange {}, out)
 }
@@ -70,8 +91,8 @@ pub extern "C" fn i_shape_area_two_contours_i64(
     offsets: &[usize],
     out: &mut [Halves],
 ) -> i32
-    ensures { MeasuresEach AreDoubleAreaHalves point_i64
-        points.now offsets.now out.old out.new result }
+    ensures { MeasuresEach AreDoubleAreaHalves point_i64 (contour_arrays points.now offsets.now)
+        out.old out.new result }
 {
     measure_contours(points, offsets, DoubleArea {}, out)
 }

@@ -1,0 +1,93 @@
+-- A polygon's own offsets, which begin with 0, and its first fault among those of many polygons.
+use Rattle.std.proofs.Common.{◌≡◌, ◌∙◌, All, ℕ, ◌+◌, ◌-◌, ◌<◌, ◌≤◌, List, [], ◌∷◌, ◌++◌, length, take, set, slice_range, refl, ap, ap₂, sym, subst, subst₂, arith}
+use Rattle.std.specs.List.{AllZip, range_with_len}
+use Rattle.std.proofs.lemmas.List.{get_or-map, length-map, take_all, take_more, take_more_set, map-id}
+use Rattle.std.proofs.lemmas.List.FromFn.{map-range_with_len_more}
+use Rattle.std.proofs.lemmas.Slice.Zip.{all_zipped_more}
+use Rattle.i_shape_core.specs.Point.{Point}
+use Rattle.i_shape_core.proofs.lists.Rings.{rises_to}
+use Rattle.i_shape_contacts.specs.Courses.{DividesPoints}
+use Rattle.i_shape_contacts.specs.Validity.{IsFirstFault}
+use Rattle.i_shape_contacts.specs.declared.validity.Validity.{Validity}
+use Rattle.i_shape_c.specs.Batch.{offset, PartsPoints}
+use Rattle.i_shape_c.specs.Validity.{rebased, points_between, placed, IsFaultOf}
+use Rattle.i_shape_c.specs.declared.validity.Fault.{Fault}
+use Rattle.i_shape_c.proofs.Appended.{parted_part, offset_part, length_part}
+use Rattle.i_shape_c.proofs.Batches.{all_part}
+
+-- each offset is less by the first one
+pub offset_rebased : (offsets : List ℕ) (k : ℕ) → k < length offsets → offset (rebased offsets) k ≡ offset offsets k - offset offsets 0
+offset_rebased offsets k less = get_or-map (λ o. o - offset offsets 0) offsets k 0 0 less
+
+-- there are as many
+pub length_rebased : (offsets : List ℕ) → length (rebased offsets) ≡ length offsets
+length_rebased offsets = length-map offsets (λ o. o - offset offsets 0)
+
+-- one more of them is written
+pub rebased_more : (offsets own : List ℕ) (k x : ℕ) → k < length offsets → k < length own → take k own ≡ take k (rebased offsets) → x ≡ offset offsets k - offset offsets 0 → take (k + 1) (set own k x) ≡ take (k + 1) (rebased offsets)
+rebased_more offsets own k x less room before is =
+    take_more_set own k x room ∙ ap₂ (λ (l : List ℕ) (y : ℕ). l ++ y ∷ []) before (is ∙ sym (offset_rebased offsets k less)) ∙ sym (take_more (rebased offsets) k 0 (let many = length_rebased offsets in omega (arith, less, many)))
+
+-- all of them are written
+pub rebased_all : (offsets own : List ℕ) (n : ℕ) → length offsets ≤ n → take n own ≡ take n (rebased offsets) → take n own ≡ rebased offsets
+rebased_all offsets own n most is = is ∙ take_all n (rebased offsets) (let many = length_rebased offsets in omega (arith, most, many))
+
+-- they divide the points between the first and the last of the offsets
+pub rebased_divides : (offsets : List ℕ) (points n : ℕ) → PartsPoints points offsets → n + offset offsets 0 ≡ offset offsets (length offsets - 1) → DividesPoints n (rebased offsets)
+rebased_divides offsets points n parted count =
+    let many = length_rebased offsets in
+    let some = parted.some in
+    record {
+      divides = record {
+        some = omega (arith, many, some);
+        first = (let e = offset_rebased offsets 0 some in omega (arith, e));
+        order = λ k h.
+            let less : k + 1 < length offsets = omega (arith, h, many) in
+            let low = offset_rebased offsets k (omega (arith, less)) in
+            let high = offset_rebased offsets (k + 1) less in
+            let up = parted.order k less in
+            omega (arith, low, high, up);
+      };
+      all =
+          (let last : length (rebased offsets) - 1 ≡ length offsets - 1 = omega (arith, many) in
+          let e = offset_rebased offsets (length offsets - 1) (omega (arith, some)) in
+          ap (offset (rebased offsets)) last ∙ e ∙ (let d : offset offsets (length offsets - 1) - offset offsets 0 ≡ n = omega (arith, count) in d));
+    }
+
+-- the first fault of a polygon's own offsets and points is that at its places among all
+pub fault_placed : (points own_points : List Point) (offsets own : List ℕ) (contour : ℕ) (validity : Validity) → own ≡ rebased offsets → own_points ≡ points_between points offsets → IsFirstFault own own_points validity → IsFaultOf points offsets contour (placed contour (offset offsets 0) validity)
+fault_placed points own_points offsets own contour validity less part first = record { validity = validity; first = subst₂ (λ (l : List ℕ) (c : List Point). IsFirstFault l c validity) less part first; is = refl }
+
+-- one fault more
+pub faults_more : (R : ℕ → Fault → Type 0) (out : List Fault) (k place : ℕ) (written : Fault) → k + 1 ≡ place → k < length out → AllZip R (range_with_len 0 k) (take k out) → R k written → AllZip R (range_with_len 0 place) (take place (set out k written))
+faults_more R out k place written next room before here =
+    let one_more : range_with_len 0 (k + 1) ≡ range_with_len 0 k ++ k ∷ [] = sym (map-id (range_with_len 0 (k + 1))) ∙ map-range_with_len_more (λ (j : ℕ). j) 0 k k (let same : 0 + k ≡ k = omega arith in same) ∙ ap (λ (l : List ℕ). l ++ k ∷ []) (map-id (range_with_len 0 k)) in
+    subst (λ n. AllZip R (range_with_len 0 n) (take n (set out k written))) next
+    (subst₂ (λ (ks : List ℕ) (faults : List Fault). AllZip R ks faults) (sym one_more) (sym (take_more_set out k written room)) (all_zipped_more R (range_with_len 0 k) (take k out) k written before here))
+
+-- the offsets of the contours of the polygon before a place
+module _ (contours shapes : List ℕ) (points place : ℕ) (contours_parted : PartsPoints points contours) (shapes_parted : PartsPoints (length contours - 1) shapes) (some : 0 < place) (less : place < length shapes) where
+  abbrev own_offsets : List ℕ
+  own_offsets = slice_range contours (offset shapes (place - 1)) (offset shapes place + 1)
+
+  -- they lie there
+  pub within : (offset shapes (place - 1) ≤ offset shapes place) × (offset shapes place < length contours)
+  within =
+      let last = rises_to shapes (length shapes) place (length shapes - 1) shapes_parted.order (omega (arith, less)) (omega (arith, less)) in
+      (rises_to shapes (length shapes) (place - 1) place shapes_parted.order (omega arith) less, omega (arith, last, shapes_parted.last, contours_parted.some))
+
+  -- they divide the points
+  pub own_parted : PartsPoints points own_offsets
+  own_parted = let in_all = within in parted_part contours (offset shapes (place - 1)) (offset shapes place + 1) points contours_parted (omega (arith, in_all.0)) (omega (arith, in_all.1))
+
+  -- what holds of all points holds of those between the first of them and the last
+  pub own_points : {P : Type 0} (Q : P → Type 0) (list : List P) → All Q (slice_range list (offset contours 0) (offset contours (length contours - 1))) → All Q (slice_range list (offset own_offsets 0) (offset own_offsets (length own_offsets - 1)))
+  own_points Q list all =
+      let in_all = within in
+      let a = offset shapes (place - 1) in
+      let b = offset shapes place in
+      let count = length_part contours a (b + 1) (omega (arith, in_all.0)) (omega (arith, in_all.1)) in
+      let first : offset own_offsets 0 ≡ offset contours a = offset_part contours a (b + 1) 0 (omega (arith, in_all.0)) ∙ ap (offset contours) (let e : a + 0 ≡ a = omega arith in e) in
+      let end : a + (length own_offsets - 1) ≡ b = omega (arith, count, in_all.0) in
+      let last : offset own_offsets (length own_offsets - 1) ≡ offset contours b = offset_part contours a (b + 1) (length own_offsets - 1) (omega (arith, end)) ∙ ap (offset contours) end in
+      subst₂ (λ (i j : ℕ). All Q (slice_range list i j)) (sym first) (sym last) (all_part Q list contours a b contours_parted.order in_all.0 in_all.1 all)

@@ -1,0 +1,67 @@
+-- What the calls return and write that find the first fault of each of many polygons.
+use Rattle.std.specs.Prelude.{◌≡◌, ℕ, ℤ, ◌+◌, ◌-◌, ◌<◌, ◌≤◌, pos, negsuc, zero, suc, List, map, length, take, drop, slice_range}
+use Rattle.std.specs.Int.{Width}
+use Rattle.std.specs.List.{AllZip, range_with_len}
+use Rattle.i_shape.specs.Point.{Point}
+use Rattle.i_shape_contacts.specs.Validity.{IsFirstFault}
+use Rattle.i_shape_contacts.specs.declared.validity.Validity.{Validity}
+use Rattle.i_shape_contacts.specs.declared.validity.Validity.TheVariants.{Valid, Collapsed, Contact, HoleOutside, HoleWithin}
+use Rattle.i_shape_c.specs.Batch.{offset, AreSafeContours}
+use Rattle.i_shape_c.specs.Codes.{Refuses}
+use Rattle.i_shape_c.specs.Polygons.{PolygonArrays, PartsPolygons}
+use Rattle.i_shape_c.specs.declared.validity.Fault.{Fault}
+
+-- the offsets of the contours of polygon k
+abbrev pub polygon_offsets : List ℕ → List ℕ → ℕ → List ℕ
+polygon_offsets contours shapes k = slice_range contours (offset shapes k) (offset shapes (k + 1) + 1)
+
+-- there is room for the offsets of the contours of each polygon
+abbrev pub HasOffsetsRoom : List ℕ → ℕ → Type 0
+HasOffsetsRoom shapes room = (k : ℕ) → k + 1 < length shapes → offset shapes (k + 1) + 1 ≤ room + offset shapes k
+
+-- the offsets, less the first of them
+abbrev pub rebased : List ℕ → List ℕ
+rebased offsets = map (λ o. o - offset offsets 0) offsets
+
+-- the points from the first offset to the last
+abbrev pub points_between : {P : Type 0} → List P → List ℕ → List P
+points_between points offsets = slice_range points (offset offsets 0) (offset offsets (length offsets - 1))
+
+-- the fault of this kind at these places
+abbrev pub fault : ℕ → ℕ → ℕ → Fault
+fault kind first second = record { kind = kind; first = first; second = second }
+
+-- the fault of a polygon, at the places in all contours and points, of which its own begin with these
+abbrev pub placed : ℕ → ℕ → Validity → Fault
+placed contour point Valid = fault 0 0 0
+placed contour point (Collapsed k) = fault 1 (contour + k) 0
+placed contour point (Contact it) = fault 2 (point + it.first) (point + it.second)
+placed contour point (HoleOutside k) = fault 3 (contour + k) 0
+placed contour point (HoleWithin k j) = fault 4 (contour + k) (contour + j)
+
+-- the fault is the first of the polygon that has these of the points, and whose contours begin with this one
+pub record IsFaultOf (points : List Point) (offsets : List ℕ) (contour : ℕ) (written : Fault) : Type 0 where
+  pub validity : Validity
+  pub first : IsFirstFault (rebased offsets) (points_between points offsets) validity
+  pub is : written ≡ placed contour (offset offsets 0) validity
+
+-- the fault is the first of polygon k
+abbrev pub IsFaultAt : {P : Type 0} → (P → Point) → PolygonArrays P → ℕ → Fault → Type 0
+IsFaultAt point given k = IsFaultOf (map point given.points) (polygon_offsets given.contours given.shapes k) (offset given.shapes k)
+
+-- the new items begin with the first fault of each polygon, in order, and what follows these is unchanged
+pub record AreFaults {P : Type 0} (point : P → Point) (given : PolygonArrays P) (old new : List Fault) : Type 0 where
+  pub each : AllZip (IsFaultAt point given) (range_with_len 0 (length given.shapes - 1)) (take (length given.shapes - 1) new)
+  pub rest : drop (length given.shapes - 1) new ≡ drop (length given.shapes - 1) old
+
+-- 0 and the fault of each polygon, or a code with nothing written
+abbrev pub FaultsAnswer : {P : Type 0} → (P → Point) → PolygonArrays P → List Fault → List Fault → ℤ → Type 0
+FaultsAnswer point given old new (pos zero) = AreFaults point given old new
+FaultsAnswer point given old new (pos (suc n)) = ⊥
+FaultsAnswer point given old new (negsuc n) = (n < 4) × (new ≡ old)
+
+-- what a call returns and writes for the first fault of each polygon, and exactly when it returns which code: none for
+-- memory where there is no polygon
+pub record FindsFaults {P : Type 0} (width : Width) (point : P → Point) (given : PolygonArrays P) (old new : List Fault) (result : ℤ) : Type 0 where
+  pub answer : FaultsAnswer point given old new result
+  pub refuses : Refuses (PartsPolygons (length given.points) given.contours given.shapes) (length given.shapes - 1 ≤ length old) (AreSafeContours width point given.points given.contours) (length given.shapes ≡ 1) result
