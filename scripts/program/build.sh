@@ -83,7 +83,7 @@ LINKER
 
 link() {
     if [ "$target" = aarch64 ]; then
-        aarch64-linux-gnu-gcc -std=c11 -O2 -s -Wall -Wextra -Werror "$work/program.o" "$allocator" "$here/os.c" -o "$work/i_shape_tool"
+        aarch64-linux-gnu-gcc -std=c11 -O2 -s -Wl,-z,relro,-z,now,--build-id=sha1 -Wall -Wextra -Werror "$work/program.o" "$allocator" "$here/os.c" -o "$work/i_shape_tool"
     else
         "$kit/bin/rattle-link" --target x86_64-unknown-linux-gnu --toolchain "$kit/toolchain" -o "$work/i_shape_tool" "$work/program.o" "$kit"/c/lib{os,libc}_c.a \
             > "$work/linked" 2>&1 || { cat "$work/linked" >&2 && return 1; }

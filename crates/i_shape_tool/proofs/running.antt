@@ -1,5 +1,4 @@
 -- A text, line by line, and one run of the program.
-pub mod Held
 pub mod Lines
 pub mod Gathering
 pub mod Serving

@@ -25,7 +25,8 @@ lines_later n (NotAContour line) = NotAContour (n + line)
 lines_later n (OutOfRange line) = OutOfRange (n + line)
 lines_later n OutOfMemory = OutOfMemory
 
--- no line of the first text is faulty, and the fault is the first one of the second, its line counted on from those of the first
+-- no line of the first text is faulty, and the fault is the first one of the second, its line counted on from those of
+-- the first
 pub record IsFaultOfSecond (command : Command) (text more : List ℕ) (fault : ToolFault) : Type 0 where
   pub good : AllByRecursion (IsGood command) (lines_of text)
   pub later : ToolFault

@@ -34,8 +34,8 @@ IsFaultOfLine command line number (NotAContour n) = (n ≡ number) × ReadsNone 
 IsFaultOfLine command line number (OutOfRange n) = (n ≡ number) × ReadsUnsafe command line
 IsFaultOfLine command line number OutOfMemory = Unit {0}
 
--- the fault is that of some line, counted from 1, and no line before it is faulty; memory may be refused at any line, and a text without
--- lines has no fault
+-- the fault is that of some line, counted from 1, and no line before it is faulty; memory may be refused at any line,
+-- and a text without lines has no fault
 abbrev pub IsFirstFault : Command → List ℕ → ToolFault → Type 0
 IsFirstFault command text fault =
     (before : List (List ℕ)) × (line : List ℕ) × (after : List (List ℕ))
@@ -69,7 +69,8 @@ ShowsCleaned Cleaned c answer = (r : Option (List Point)) × Cleaned c r × (ans
 abbrev pub ShowsArea : List Point → List ℕ → Type 0
 ShowsArea c answer = answer ≡ ended (shown_area c)
 
--- the output is an answer to the contour of each line, in order, and nothing else, if `Answers` relates a contour to its answers
+-- the output is an answer to the contour of each line, in order, and nothing else, if `Answers` relates a contour to
+-- its answers
 abbrev pub AnswersLines : Command → (List Point → List ℕ → Type 0) → List ℕ → List ℕ → Type 0
 AnswersLines command Answers text output =
     (contours : List (List Point)) × (answers : List (List ℕ))
@@ -77,7 +78,8 @@ AnswersLines command Answers text output =
     × AllZip Answers contours answers
     × (output ≡ concat answers)
 
--- the output is each contour that is left of those that the lines read, in order, each on a line of its own, and nothing else
+-- the output is each contour that is left of those that the lines read, in order, each on a line of its own, and
+-- nothing else
 abbrev pub ShowsCompact : List ℕ → List ℕ → Type 0
 ShowsCompact text output =
     (contours : List (List Point)) × (kept : List (List Point))

@@ -1,5 +1,5 @@
 -- One run of the program: its arguments, its input and its two outputs.
-use Rattle.std.specs.Prelude.{◌≡◌, ℕ, List, [], ◌∷◌, Option, IfSome, string_bytes, ◌⊎◌, ◌++◌, codes, decimal}
+use Rattle.std.specs.Prelude.{◌≡◌, ℕ, List, [], ◌∷◌, Option, IfSome, string_bytes, ◌⊎◌, ◌++◌, take, codes, decimal}
 use Rattle.std.specs.Str.{IsUtf8}
 use Rattle.std.specs.declared.string.String.{String}
 use Rattle.std.specs.declared.alloc.Global.{Global}
@@ -35,6 +35,10 @@ told (Fault faults.OutOfMemory) = codes "out of memory"
 told Input = codes "input or output failed"
 told Output = codes "input or output failed"
 
+-- known bytes grow by the first ones of bs: none, some or all
+abbrev pub AppendsBeginning : Option (List ℕ) → Option (List ℕ) → List ℕ → Type 0
+AppendsBeginning before after bs = (n : ℕ) × Appends before after (take n bs)
+
 -- the command is asked for, and the output gained its answer to the input, where those are known
 abbrev pub IsServed : List (String Global) → Option (List ℕ) → Option (List ℕ) → Option (List ℕ) → Type 0
 IsServed words input before after =
@@ -45,8 +49,8 @@ IsServed words input before after =
 abbrev pub HasAnswer : Command → List ℕ → Type 0
 HasAnswer command text = (answer : List ℕ) × AnswersText command text answer
 
--- the complaint is true of the words and of the input, if that is known; a fault is one of the text that was read, and the output fails
--- only if there is an answer to write
+-- the complaint is true of the words and of the input, if that is known; a fault is one of the text that was read, and
+-- the output fails only if there is an answer to write
 abbrev pub IsTrueComplaint : List (String Global) → Option (List ℕ) → Complaint → Type 0
 IsTrueComplaint words input Usage = (command : Command) → Asks words command → ⊥
 IsTrueComplaint words input NotUtf8 = (command : Command) × Asks words command × IfSome input (λ text. IsUtf8 text → ⊥)
@@ -55,17 +59,23 @@ IsTrueComplaint words input (Fault fault) =
 IsTrueComplaint words input Input = (command : Command) × Asks words command
 IsTrueComplaint words input Output = (command : Command) × Asks words command × IfSome input (HasAnswer command)
 
--- unless the output failed, it holds what it held, if that is known
-abbrev pub KeepsOutput : Complaint → Option (List ℕ) → Option (List ℕ) → Type 0
-KeepsOutput Usage before after = Keeps before after
-KeepsOutput NotUtf8 before after = Keeps before after
-KeepsOutput (Fault fault) before after = Keeps before after
-KeepsOutput Input before after = Keeps before after
-KeepsOutput Output before after = Unit {0}
+-- the command is asked for, and the output gained the beginning of its answer to the input, where those are known
+abbrev pub IsBegun : List (String Global) → Option (List ℕ) → Option (List ℕ) → Option (List ℕ) → Type 0
+IsBegun words input before after =
+    (command : Command) × Asks words command
+    × IfSome input (λ text. (answer : List ℕ) × AnswersText command text answer × AppendsBeginning before after answer)
 
--- one run of the program: the status is 0 and the output answers the input, or the status is that of a true complaint, and nothing was
--- written unless the output failed
+-- the output holds what it held, if that is known, and where it failed, the beginning of an answer behind it
+abbrev pub LeavesOutput : List (String Global) → Option (List ℕ) → Complaint → Option (List ℕ) → Option (List ℕ) → Type 0
+LeavesOutput words input Usage before after = Keeps before after
+LeavesOutput words input NotUtf8 before after = Keeps before after
+LeavesOutput words input (Fault fault) before after = Keeps before after
+LeavesOutput words input Input before after = Keeps before after
+LeavesOutput words input Output before after = IsBegun words input before after
+
+-- one run of the program: the status is 0 and the output answers the input, or the status is that of a true complaint,
+-- and nothing was written but the beginning of an answer where the output failed
 abbrev pub EndsWith : List (String Global) → Option (List ℕ) → Option (List ℕ) → Option (List ℕ) → ℕ → Type 0
 EndsWith words input before after status =
     ((status ≡ 0) × IsServed words input before after)
-    ⊎ ((complaint : Complaint) × (status ≡ status_of complaint) × IsTrueComplaint words input complaint × KeepsOutput complaint before after)
+    ⊎ ((complaint : Complaint) × (status ≡ status_of complaint) × IsTrueComplaint words input complaint × LeavesOutput words input complaint before after)

@@ -28,7 +28,8 @@ SayPoints (x ∷ []) c = ⊥
 SayPoints (x ∷ y ∷ words) [] = ⊥
 SayPoints (x ∷ y ∷ words) (p ∷ c) = IsDecimal x p.x × IsDecimal y p.y × SayPoints words c
 
--- the line is decimals separated by single spaces, the coordinates of the points of c in turn; with no decimal it is empty, and so is c
+-- the line is decimals separated by single spaces, the coordinates of the points of c in turn; with no decimal it is
+-- empty, and so is c
 abbrev pub Reads : List ℕ → List Point → Type 0
 Reads line c = (words : List (List ℕ)) × (line ≡ join_with_byte space words) × SayPoints words c
 

@@ -49,7 +49,7 @@ impl ContourAnswer for Areas {
 #[derive(Drop)]
 pub(crate) struct Cleaned<C> {
     cleaner: C,
-    /// As long as the longest contour so far. What is left of the last one stands in front.
+    /// As long as the longest contour so far. What is left of the last one is in front.
     left: IntContour<i32>,
 }
 
@@ -67,7 +67,7 @@ impl<C: ContourCleaner> Cleaned<C> {
         ensures { IfOk result (λ left.
             C.answers (contour_of contour.now) (slot (contour_of left.now))) }
     {
-        // Only the length matters: what stands there is written over.
+        // Only the length matters: what is there is overwritten.
         if let Some(longer) = contour.get(self.left.len()..) {
             self.left.extend_from_slice(longer)?;
         }

@@ -1,6 +1,6 @@
 //! Cleaning of shapes through a flat buffer.
 
-ghost use Rattle.std.specs.Prelude.{◌≡◌, ◌<◌, ◌↔◌, ◌⊎◌, length, IfOk, IsErrOf};
+ghost use Rattle.std.specs.Prelude.{◌≡◌, ◌<◌, ◌↔◌, ◌⊎◌, [], length, IfOk, IsOk, IsErrOf};
 ghost use Rattle.i_shape.specs.Cleaners.{SimpleAnswer, DespikeAnswer};
 ghost use Rattle.i_shape.specs.Paths.{shape_lists, concatenated};
 ghost use Rattle.i_shape.specs.ShapeLists.{shapes_of, IsSafeList};
@@ -15,8 +15,11 @@ use std::alloc::Global;
 
 /// Returns the shapes without zero turns. Fills a flat buffer with the shapes, reads them back, and cleans them. A
 /// shape whose first contour collapses is left out, and so are later contours that collapse. An empty shape stays.
+///
+/// # Errors
+///
 /// `TooManyPoints` if there are more than `usize::MAX` contours, or if they have more than `usize::MAX` points
-/// together; otherwise the only error is `OutOfMemory`.
+/// together; otherwise `OutOfMemory`. Neither can occur where there is no shape.
 pub fn clean_through_buffer<I: IntNumber>(
     alloc: Global,
     shapes: &[IntShape<I>],
@@ -30,12 +33,17 @@ pub fn clean_through_buffer<I: IntNumber>(
     ensures too_many { IsErrOf result ShapeError.TooManyPoints
         ↔ ((usize.MAX < length (concatenated (concatenated (shape_lists shapes.now))))
         ⊎ (usize.MAX < length (concatenated (shape_lists shapes.now)))) }
+    ensures none { shapes.now ≡ [] → IsOk result }
 {
     let kept = read_back(alloc, shapes)?;
     kept.as_slice().simplified(alloc)
 }
 
 /// Returns the shapes without spikes, otherwise like `clean_through_buffer`.
+///
+/// # Errors
+///
+/// Those of `clean_through_buffer`.
 pub fn despike_through_buffer<I: IntNumber>(
     alloc: Global,
     shapes: &[IntShape<I>],
@@ -49,6 +57,7 @@ pub fn despike_through_buffer<I: IntNumber>(
     ensures too_many { IsErrOf result ShapeError.TooManyPoints
         ↔ ((usize.MAX < length (concatenated (concatenated (shape_lists shapes.now))))
         ⊎ (usize.MAX < length (concatenated (shape_lists shapes.now)))) }
+    ensures none { shapes.now ≡ [] → IsOk result }
 {
     let mut kept = read_back(alloc, shapes)?;
     kept.remove_spikes()?;
@@ -66,6 +75,7 @@ fn read_back<I: IntNumber>(
     ensures too_many { IsErrOf result ShapeError.TooManyPoints
         ↔ ((usize.MAX < length (concatenated (concatenated (shape_lists shapes.now))))
         ⊎ (usize.MAX < length (concatenated (shape_lists shapes.now)))) }
+    ensures none { shapes.now ≡ [] → IsOk result }
 {
     let mut buffer = FlatShapesBuffer::new(alloc);
     buffer.set_with_shapes(shapes)?;

@@ -16,7 +16,8 @@ use i_shape::flat::buffer::FlatContoursBuffer;
 use i_shape::source::int::resource::IntShapeResource;
 use std::alloc::{AllocError, Global};
 
-/// Returns the contours of a text's lines without their zero turns, each on a line of its own, and without those that collapse.
+/// Returns the contours of a text's lines without their zero turns, each on a line of its own, and without those that
+/// collapse.
 pub(crate) fn compact(alloc: Global, text: &str) -> Result<String, ToolFault>
     ensures ok { IfOk result (λ output. ShowsCompact text.now (string_bytes output)) }
     ensures err { IfErr result (IsFirstFault Compact text.now) }

@@ -22,7 +22,8 @@ pub fn shown_reads_back()
     ensures { (c : List Point) → AllByRecursion FitPoint c → Reads (shown c) c }
 {}
 
-/// An answer to a text that ends its lines, followed by an answer to a second text, is an answer to the two as one text.
+/// An answer to a text that ends its lines, followed by an answer to a second text, is an answer to the two as one
+/// text.
 #[tactic(auto, using(crate::proofs::running::TwoTexts::answers_concatenated))]
 pub fn answers_concatenated()
     ensures { (command : Command) (text more output added : List ℕ)
@@ -38,8 +39,8 @@ pub fn answers_parted()
         → PartedAnswer command text more output }
 {}
 
-/// The first fault of the two as one text is that of the first text. If no line of the first is faulty, it is that of the second, with
-/// its line counted on from those of the first.
+/// The first fault of the two as one text is that of the first text. If no line of the first is faulty, it is that of
+/// the second, with its line counted on from those of the first.
 pub fn fault_concatenated()
     ensures first { (command : Command) (text more : List ℕ) (fault : ToolFault)
         → EndsItsLines text → IsFirstFault command text fault
@@ -52,7 +53,8 @@ pub fn fault_concatenated()
         → IsFirstFault command text fault ⊎ IsFaultOfSecond command text more fault }
 {}
 
-/// `==` of two commands is true exactly where they are the same. A clone is the command itself, and cloning never fails.
+/// `==` of two commands is true exactly where they are the same. A clone is the command itself, and cloning never
+/// fails.
 pub fn commands_equal(_a: &Command, _b: &Command)
     ensures compared { IsTrue (⟦<Command as PartialEq>⟧.eq _a.now _b.now) ↔ (_a.now ≡ _b.now) }
     ensures cloned { ⟦<Command as Clone>⟧.is_clone _a.now _b.now → _b.now ≡ _a.now }

@@ -24,6 +24,11 @@ pub fn first_line(text: &str) -> (&str, &str)
 }
 
 /// Reads the contour of a line into `contour`, in place of what it held. A command that cleans gets only safe points.
+///
+/// # Errors
+///
+/// `NotAContour` where the line holds no contour, `OutOfRange` where a command that cleans gets a point that isn't
+/// safe, and `OutOfMemory`, if an allocation fails.
 pub fn read_line(
     command: Command,
     line: &str,

@@ -43,8 +43,8 @@ fn without_sign(text: &[u8]) -> (bool, &[u8])
     (negative, &text[signs..])
 }
 
-/// Returns the number that the leading digits of a text write, and the text after them, or `None` if there is no digit or the number is
-/// too large for 32 bits.
+/// Returns the number that the leading digits of a text write, and the text after them, or `None` if there is no digit
+/// or the number is too large for 32 bits.
 #[tactic(auto, using(crate::proofs::reading::Numerals::take_digit))]
 fn first_digits(text: &[u8]) -> Option<(u64, &[u8])>
     ensures writes { IfSome result (λ r. HasDigits text.now r.0 r.1.now) }

@@ -4,13 +4,13 @@ ghost use Rattle.std.specs.Prelude.{◌≡◌, ◌++◌, ◌∷◌, [], Some, If
 ghost use Rattle.std.specs.Io.KnownBytes.{Appends, Keeps};
 ghost use Rattle.i_shape_tool.specs.Text.{newline};
 ghost use Rattle.i_shape_tool.specs.declared.program.Complaint.TheVariants.{Fault, Input, Usage};
-ghost use Rattle.i_shape_tool.specs.Serve.{Asks, status_of, IsServed, IsTrueComplaint, KeepsOutput, EndsWith, told};
+ghost use Rattle.i_shape_tool.specs.Serve.{Asks, status_of, AppendsBeginning, IsServed, IsTrueComplaint, LeavesOutput, EndsWith, told};
 
 use crate::command::Command;
 use crate::fault::ToolFault;
 use crate::text::run;
 use std::alloc::Global;
-use std::io::{Read, Write};
+use std::io::{ErrorKind, Read, Write};
 use std::{fmt, io};
 
 /// Why the program stops, as it reports on standard error.
@@ -104,7 +104,8 @@ fn read_all<R: Read>(alloc: Global, input: &mut R) -> Result<Vec<u8>, Complaint>
     Ok(bytes)
 }
 
-/// Reads all input, and writes the answer to it. After `Ok` it has written the answer and nothing else.
+/// Reads all input, and writes the answer to it. After `Ok` it has written the answer and nothing else, after `Output`
+/// a beginning of it, and after any other complaint nothing.
 fn answer<R: Read, W: Write>(
     alloc: Global,
     words: &[String],
@@ -114,8 +115,8 @@ fn answer<R: Read, W: Write>(
     ensures ok { OnOk result (IsServed words.now (R.remaining input.old)
         (W.contents output.old) (W.contents output.new)) }
     ensures err { IfErr result (IsTrueComplaint words.now (R.remaining input.old)) }
-    ensures kept { IfErr result (λ complaint.
-        KeepsOutput complaint (W.contents output.old) (W.contents output.new)) }
+    ensures leaves { IfErr result (λ complaint. LeavesOutput words.now (R.remaining input.old)
+        complaint (W.contents output.old) (W.contents output.new)) }
     ensures unread { IfErr result (λ complaint. complaint ≡ Usage
         → Keeps (R.remaining input.old) (R.remaining input.new)) }
 {
@@ -128,17 +129,40 @@ fn answer<R: Read, W: Write>(
     write_whole(output, answer.as_bytes()).map_err(|_error| Complaint::Output)
 }
 
-/// Writes all bytes, and flushes, which no clause states.
+/// Writes all bytes, and flushes. After an error it has written a beginning of the bytes.
 fn write_whole<W: Write>(output: &mut W, bytes: &[u8]) -> io::Result<()>
-    ensures { OnOk result (Appends (W.contents output.old) (W.contents output.new) bytes.now) }
+    ensures whole { OnOk result (Appends (W.contents output.old) (W.contents output.new) bytes.now) }
+    ensures begun { AppendsBeginning (W.contents output.old) (W.contents output.new) bytes.now }
 {
-    output.write_all(bytes)?;
+    write_bytes(output, bytes)?;
     output.flush()
 }
 
-/// Runs the program once, and returns its exit status. If `words`, the arguments after the program's name, are one command, it reads all
-/// input and writes the answer to `output`. Otherwise it reads nothing. Where it has no answer, or can't write it, it writes a line to
-/// `errors`. If that fails, the line is lost, and the status stays.
+/// Writes all bytes. After an error it has written a beginning of them, which `write_all` doesn't promise.
+fn write_bytes<W: Write>(output: &mut W, bytes: &[u8]) -> io::Result<()>
+    ensures whole { OnOk result (Appends (W.contents output.old) (W.contents output.new) bytes.now) }
+    ensures begun { AppendsBeginning (W.contents output.old) (W.contents output.new) bytes.now }
+{
+    let mut rest = bytes;
+    for _ in 0..u64::MAX {
+        if rest.is_empty() {
+            return Ok(());
+        }
+        match output.write(rest) {
+            Ok(0) => return Err(io::Error::from(ErrorKind::WriteZero)),
+            Ok(count) => rest = &rest[count..],
+            Err(error) if error.kind() == ErrorKind::Interrupted => {}
+            Err(error) => return Err(error),
+        }
+    }
+    // No output is interrupted, or takes a byte, so many times.
+    Err(io::Error::from(ErrorKind::Interrupted))
+}
+
+/// Runs the program once, and returns its exit status. If `words`, the arguments after the program's name, are one
+/// command, it reads all input and writes the answer to `output`. Otherwise it reads nothing. Where it has no answer,
+/// or can't write it, it writes a line to `errors`. If that fails, the line is lost, and the status stays. Where
+/// `output` fails, it has gained a beginning of the answer.
 #[tactic(auto, using(crate::proofs::running::Serving::is_usage))]
 pub fn serve<R: Read, W: Write, E: Write>(
     alloc: Global,

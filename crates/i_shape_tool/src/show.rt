@@ -11,10 +11,16 @@ use i_shape::int::IntPoint;
 use i_shape::int::area::Area;
 use std::alloc::AllocError;
 
-/// How many points are written before they are appended at once. Bytes that were just written one by one are slow to copy.
+/// How many points are written before they are appended at once. Bytes that were just written one by one are slow to
+/// copy.
 const POINTS: usize = 16;
 
-/// Appends the coordinates of the points in order, separated by single spaces. The space before the first one is skipped.
+/// Appends the coordinates of the points in order, separated by single spaces. The space before the first one is
+/// skipped.
+///
+/// # Errors
+///
+/// `AllocError`, if an allocation fails.
 #[tactic(auto, using(crate::proofs::showing::Contours::without_first_space))]
 pub fn show_contour(output: &mut String, contour: &[IntPoint<i32>]) -> Result<(), AllocError>
     ensures { OnOk result (string_bytes output.new ≡ string_bytes output.old
@@ -33,7 +39,8 @@ pub fn show_contour(output: &mut String, contour: &[IntPoint<i32>]) -> Result<()
     Ok(())
 }
 
-/// Writes the coordinates of the points, a space before each, so that they end where the text does. Returns where they start.
+/// Writes the coordinates of the points, a space before each, so that they end where the text does. Returns where they
+/// start.
 #[tactic(auto, using(crate::proofs::showing::Contours::starts_within))]
 fn write_points(points: &[IntPoint<i32>], text: &mut [u8]) -> usize
     requires { length points.now * 24 ≤ length text.old }
@@ -63,6 +70,10 @@ fn write_point(point: IntPoint<i32>, text: &mut [u8], end: usize) -> usize
 }
 
 /// Appends a contour on a line of its own.
+///
+/// # Errors
+///
+/// `AllocError`, if an allocation fails.
 pub fn show_line(output: &mut String, contour: &[IntPoint<i32>]) -> Result<(), AllocError>
     ensures { OnOk result (string_bytes output.new ≡ string_bytes output.old
         ++ shown_line (contour_of contour.now)) }
@@ -72,6 +83,10 @@ pub fn show_line(output: &mut String, contour: &[IntPoint<i32>]) -> Result<(), A
 }
 
 /// Appends what a cleaner left of a contour, or a word if no point is left, on a line of its own.
+///
+/// # Errors
+///
+/// `AllocError`, if an allocation fails.
 pub fn show_cleaned(output: &mut String, left: &[IntPoint<i32>]) -> Result<(), AllocError>
     ensures { OnOk result (string_bytes output.new ≡ string_bytes output.old
         ++ ended (shown_or_none (slot (contour_of left.now)))) }
@@ -83,6 +98,10 @@ pub fn show_cleaned(output: &mut String, left: &[IntPoint<i32>]) -> Result<(), A
 }
 
 /// Appends twice the area of a contour, or a word if it has no points, on a line of its own.
+///
+/// # Errors
+///
+/// `AllocError`, if an allocation fails.
 pub fn show_area(output: &mut String, contour: &[IntPoint<i32>]) -> Result<(), AllocError>
     ensures { OnOk result (string_bytes output.new ≡ string_bytes output.old
         ++ ended (shown_area (contour_of contour.now))) }

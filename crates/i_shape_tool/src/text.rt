@@ -14,17 +14,20 @@ use crate::line::{first_line, read_line};
 use i_shape::int::cleaner::{Canonicalizer, ContourDeSpiker, ContourSimplifier};
 use std::alloc::Global;
 
-/// Returns the answer of a command to a text of contours: for each line, in order, the result for its contour on a line of its own, and
-/// nothing else. `Compact` leaves out the lines of contours that collapse, and writes of the others what `Simplify` writes.
+/// Returns the answer of a command to a text of contours: for each line, in order, the result for its contour on a line
+/// of its own, and nothing else. `Compact` leaves out the lines of contours that collapse, and writes of the others
+/// what `Simplify` writes.
 ///
-/// Lines end at `\n`, and the last one needs no end. A line holds the coordinates of its points, x and y in turn, as 32-bit decimals
-/// separated by single spaces. An empty line is the contour without points. `Simplify` writes the points of the contour without zero
-/// turns in the same form, or `none` if it collapses. `Despike` does so for the contour without spikes and repeated points, and
-/// `Canonical` writes the least rotation of what `Simplify` writes. `Area` writes twice the area of the contour, wrapped to 64 bits, or
-/// `empty` if it has no points.
+/// Lines end at `\n`, and the last one needs no end. A line holds the coordinates of its points, x and y in turn, as
+/// 32-bit decimals separated by single spaces. An empty line is the contour without points. `Simplify` writes the
+/// points of the contour without zero turns in the same form, or `none` if it collapses. `Despike` does so for the
+/// contour without spikes and repeated points, and `Canonical` writes the least rotation of what `Simplify` writes.
+/// `Area` writes twice the area of the contour, wrapped to 64 bits, or `empty` if it has no points.
 ///
-/// `NotAContour` and `OutOfRange` give the first line that is faulty for the command. `OutOfMemory` occurs where an allocation fails and
-/// no faulty line was found before.
+/// # Errors
+///
+/// `NotAContour` and `OutOfRange` give the first line that is faulty for the command. `OutOfMemory` occurs where an
+/// allocation fails and no faulty line was found before.
 pub fn run(alloc: Global, command: Command, text: &str) -> Result<String, ToolFault>
     ensures ok { IfOk result (λ output. AnswersText command text.now (string_bytes output)) }
     ensures err { IfErr result (IsFirstFault command text.now) }

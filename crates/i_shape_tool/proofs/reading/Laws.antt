@@ -43,7 +43,7 @@ one_reading line c d (words, is, says) (others, same, again) =
 without_sign_byte : (d : ℕ) (ds : List ℕ) (minus plus : Bool) → minus ≡ false → plus ≡ false → (cond minus ds (drop (cond plus 1 0) (d ∷ ds)) ≡ d ∷ ds) × (cond minus (neg_ℤ (pos (digits_value 10 (cond minus ds (drop (cond plus 1 0) (d ∷ ds)))))) (pos (digits_value 10 (cond minus ds (drop (cond plus 1 0) (d ∷ ds))))) ≡ pos (digits_value 10 (d ∷ ds)))
 without_sign_byte d ds minus plus no_minus no_plus = rw (no_minus, no_plus) (refl, refl)
 
--- digits with no sign in front are read as they stand
+-- digits with no sign in front are read as they are
 digits_without_sign : (ds : List ℕ) → IsNumeral 10 ds → (without_leading_sign ds ≡ ds) × (signed_digits_value 10 ds ≡ pos (digits_value 10 ds))
 digits_without_sign [] is = absurd (omega (arith, is.0))
 digits_without_sign (d ∷ ds) is =

@@ -55,7 +55,7 @@ no_first (x ∷ []) some none c says = says
 no_first (x ∷ y ∷ words) some none [] says = says
 no_first (x ∷ y ∷ words) some none (p ∷ c) says = none x (y ∷ words) p.x refl says.0
 
--- and where the word after it is none, neither
+-- where the second word is no decimal, the words say no points
 pub no_second : (words left : List (List ℕ)) (z : ℤ) → SaysNumber words z left → 0 < length left → ((word : List ℕ) (more : List (List ℕ)) (y : ℤ) → left ≡ word ∷ more → IsDecimal word y → ⊥) → (c : List Point) → SayPoints words c → ⊥
 no_second words [] z first some none c says = omega (arith, some)
 no_second words (y ∷ more) z (x, is, decimal) some none c says = go c (subst (λ ws. SayPoints ws c) is says)
@@ -64,7 +64,8 @@ no_second words (y ∷ more) z (x, is, decimal) some none c says = go c (subst (
     go [] h = h
     go (p ∷ c) h = none y more p.y refl h.1
 
--- what is left follows `done`: points that it says are said after those, and whatever the words say, what is left says some points
+-- what is left follows `done`: points that it says are said after those, and whatever the words say, what is left says
+-- some points
 pub record HasRead (words left : List (List ℕ)) (done : List Point) : Type 0 where
   pub onward : (c : List Point) → SayPoints left c → SayPoints words (done ++ c)
   pub back : (c : List Point) → SayPoints words c → (d : List Point) × SayPoints left d

@@ -66,7 +66,7 @@ too_large text left size most done over digits rest is ends numeral =
     let first : take (length done.taken) digits ≡ done.taken = ap (take (length done.taken)) longer ∙ take-append_seam done.taken more in
     omega (arith, digits_value-take-le 10 digits (length done.taken) (omega arith), ap (digits_value 10) first, done.writes, over)
 
--- where no digit is taken and none follows, no number stands in front
+-- if no digit is taken and none follows, there is no number in front
 pub no_digits : (text left : List ℕ) (size : ℕ) → HasTaken text left size → length left ≡ length text → EndsDigits left → (digits rest : List ℕ) → text ≡ digits ++ rest → EndsWord rest → IsNumeral 10 digits → ⊥
 no_digits text left size done none stops digits rest is ends numeral =
     let same = same_digits done.taken left digits rest done.digits numeral.1 stops (ends_word rest ends) (sym done.split ∙ is) in
@@ -150,7 +150,7 @@ too_large_fits true zero over fits = omega (arith, over)
 too_large_fits true (suc n) over fits = omega (arith, over, fits)
 too_large_fits false size over fits = omega (arith, over, fits)
 
--- where no digits of 32 bits stand in front, the first word is no decimal
+-- if there are no digits of 32 bits in front, the first word is no decimal
 pub no_number : (text left : List ℕ) → left ≡ without_leading_sign text → ((digits rest : List ℕ) → left ≡ digits ++ rest → EndsWord rest → IsNumeral 10 digits → 2 ^ 31 < digits_value 10 digits)
     → (word : List ℕ) (more : List (List ℕ)) (z : ℤ) → words_of text ≡ word ∷ more → IsDecimal word z → ⊥
 no_number text left is none word more z words decimal =

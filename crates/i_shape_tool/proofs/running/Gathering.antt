@@ -9,7 +9,7 @@ use Rattle.i_shape.specs.Survivors as cleaned
 use Rattle.i_shape.specs.IntPoints.{IntPoint}
 use Rattle.i_shape.specs.Buffers.{HoldsContours}
 use Rattle.i_shape.specs.declared.flat.buffer.contours.FlatContoursBuffer.{FlatContoursBuffer}
-use Rattle.i_shape_tool.proofs.running.Held.{held_more}
+use Rattle.i_shape.proofs.CallerLemmas.{held_more}
 use Rattle.i_shape_tool.specs.declared.command.Command.TheVariants.{Compact}
 use Rattle.i_shape_tool.specs.declared.fault.ToolFault.{ToolFault}
 use Rattle.i_shape_tool.specs.declared.fault.ToolFault.TheVariants.{OutOfMemory}

@@ -1,4 +1,4 @@
--- What a text is answered, line by line.
+-- The program's answer to a text, line by line.
 use Rattle.std.proofs.Common.{◌≡◌, ℕ, ◌+◌, ◌<◌, ◌≤◌, List, [], ◌∷◌, ◌++◌, length, refl, sym, ap, ap₂, ◌∙◌, subst, arith, append_assoc, append-nil, length-append}
 use Rattle.std.specs.List.{concat, AllByRecursion, AllZip}
 use Rattle.std.proofs.lemmas.List.Folds.{concat-append}
@@ -64,7 +64,7 @@ module _ (command : Command) where
       go (line ∷ lines) contours is read some = ([], line, lines, is, tt, tt)
 
 module _ (command : Command) (Answers : List Point → List ℕ → Type 0) where
-  -- the output answers the lines before what is left, and `number` counts these
+  -- the output is the answer to the lines before what is left, and `number` counts these
   pub record HasAnswered (text left output : List ℕ) (number : ℕ) : Type 0 where
     pub contours : List (List Point)
     pub answers : List (List ℕ)
@@ -72,7 +72,7 @@ module _ (command : Command) (Answers : List Point → List ℕ → Type 0) wher
     pub each : AllZip Answers contours answers
     pub written : output ≡ concat answers
 
-  -- nothing is answered yet
+  -- before the first line there is no output
   pub answered_none : (text output : List ℕ) → output ≡ [] → HasAnswered text text output 0
   answered_none text output none = record { contours = []; answers = []; read = read_none command text; each = tt; written = none }
 
@@ -86,7 +86,7 @@ module _ (command : Command) (Answers : List Point → List ℕ → Type 0) wher
     written = grown ∙ ap₂ ◌++◌ done.written (sym (append-nil answer)) ∙ sym (concat-append done.answers (answer ∷ []));
   }
 
-  -- where nothing is left, all lines are answered
+  -- if nothing is left, the output is the answer to all lines
   pub answered_all : (text left output : List ℕ) (number : ℕ) → HasAnswered text left output number → length left ≡ 0 → AnswersLines command Answers text output
   answered_all text left output number done none =
       (done.contours, done.answers, read_to_end command text left done.contours number done.read none, done.each, done.written)

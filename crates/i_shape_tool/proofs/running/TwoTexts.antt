@@ -125,7 +125,7 @@ answers_parted Compact text more output whole (contours, kept, read, (answers, z
       answers_second = (c.right, survivors a.right, c.of_right, (a.right, a.of_right, refl), refl);
     }
 
--- where a member of two lists one after the other stands
+-- where a member of two lists one after the other is
 cut_at : {A : Type 0} (xs ys before : List A) (z : A) (after : List A) → xs ++ ys ≡ before ++ z ∷ after
     → ((rest : List A) × (xs ≡ before ++ z ∷ rest)) ⊎ ((mid : List A) × (before ≡ xs ++ mid) × (ys ≡ mid ++ z ∷ after))
 cut_at [] ys before z after e = inr (before, refl, e)
@@ -152,7 +152,7 @@ fault_later command line n k (NotAContour m) h = (ap (λ z. n + z) h.0, h.1)
 fault_later command line n k (OutOfRange m) h = (ap (λ z. n + z) h.0, h.1)
 fault_later command line n k OutOfMemory h = tt
 
--- and every fault further down is one
+-- each fault further down is a fault of the line
 fault_earlier : (command : Command) (line : List ℕ) (n k : ℕ) (fault : ToolFault) → IsFaultOfLine command line (n + k) fault → (earlier : ToolFault) × IsFaultOfLine command line k earlier × (fault ≡ lines_later n earlier)
 fault_earlier command line n k (NotAContour m) h = (NotAContour k, (refl, h.1), ap NotAContour h.0)
 fault_earlier command line n k (OutOfRange m) h = (OutOfRange k, (refl, h.1), ap OutOfRange h.0)

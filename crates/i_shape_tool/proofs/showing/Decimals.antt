@@ -76,6 +76,6 @@ pub signed_ascii : (z : ℤ) → FitsSigned w32 z → IsAscii (signed_decimal z)
 signed_ascii (pos n) fits = IsAscii-signed (pos n) (omega (arith, fits))
 signed_ascii (negsuc n) fits = IsAscii-signed (negsuc n) (omega (arith, fits))
 
--- and so are two of them, a space before each
+-- two decimals with a space before each are ASCII
 pub spaced_ascii : (xs ys : List ℕ) → IsAscii xs → IsAscii ys → IsAscii (space ∷ (xs ++ (space ∷ ys)))
 spaced_ascii xs ys x y = IsAscii-cons space _ (omega arith) (IsAscii-append xs (space ∷ ys) x (IsAscii-cons space ys (omega arith) y))
