@@ -1,4 +1,4 @@
--- What comparing lists of the program's points says of the contours that they stand for.
+-- What comparing lists of the program's points says of the contours that they represent.
 use Rattle.std.proofs.Common.{◌≡◌, ◌≢◌, ◌↔◌, ◌<◌, ℕ, Bool, true, false, IsTrue, MatchBool, Decides, List, [], ◌∷◌}
 use Rattle.std.proofs.Common.{Contains, HoldsAt, length, get_or, map, refl, sym, ◌∙◌, arith}
 use Rattle.std.specs.List.{AllWithin}
@@ -23,7 +23,7 @@ lists_decided {X} {Y} E f decides (x ∷ xs) (y ∷ ys) =
     from : f x ∷ map f xs ≡ f y ∷ map f ys → (f x ≡ f y) × (map f xs ≡ map f ys)
     from e = (cc, cc)
 
--- a search that told whether f gives y for some member told whether y is in the mapped list
+-- f x = y for some member x exactly if the mapped list contains y
 pub told_of_mapped : {X Y : Type 0} (f : X → Y) (xs : List X) (y : Y) (r : Bool)
     → MatchBool r ((k : ℕ) × (k < length xs) × HoldsAt (λ x. f x ≡ y) xs k) (AllWithin (λ x. f x ≢ y) xs 0 (length xs))
     → IsTrue r ↔ Contains (map f xs) y

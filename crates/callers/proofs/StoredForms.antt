@@ -51,7 +51,7 @@ module _ (store : List (List Point)) (forms : AreForms store) where
           let own = member form there in
           subst (Contains store) (one_form own.1 w (joined_trans (form_joined own.1) joined)) there
 
-  -- and nothing is found for a contour that collapses
+  -- for a contour that collapses nothing is found
   pub none_found : (c : List Point) → EachEndCollapses c → IsFound store c → ⊥
   none_found c collapses (form, there, joined) =
       let own = member form there in
@@ -84,7 +84,7 @@ finds_same store c (form, there, joined) d = (λ found. inl found, from)
     from (inl found) = found
     from (inr more) = (form, there, joined_trans joined more)
 
--- a pushed contour stands at the end
+-- a pushed contour comes last
 pub shape_more : {I : Type 0} (value : I → ℤ) (old new : List (Vec (IntPoint I))) (pushed : Vec (IntPoint I))
     → new ≡ old ++ pushed ∷ [] → shape_of value new ≡ shape_of value old ++ contour_of value pushed.items ∷ []
 shape_more value old new pushed became =

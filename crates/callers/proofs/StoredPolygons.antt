@@ -1,4 +1,5 @@
--- A store of polygons keeps forms, so it has a polygon that is the same as s exactly where it has the form of s; and a sorted set of forms has what was put in.
+-- A store of polygons keeps forms, so it has a polygon that is the same as s exactly where it has the form of s; and a
+-- sorted set of forms has what was put in.
 use Rattle.std.proofs.Common.{◌≡◌, ◌↔◌, ◌⊎◌, ℕ, zero, suc, ◌<◌, length, slice_index_or, ℤ, List, [], ◌∷◌, map, Some, Contains, IsTrue, Bool, true, false, inl, inr, refl, sym, ◌∙◌, ◌||◌, not, subst, arith}
 use Rattle.std.specs.List.{list_any}
 use Rattle.std.specs.Global.{Vec}
@@ -23,7 +24,7 @@ use Rattle.i_shape.proofs.shapes.Forms.{canonical_shapes, canonical_has_shape}
 use Rattle.callers.specs.Polygons.{AreOwnForms, IsPolygonFound, AlsoFindsPolygon, SamePolygon}
 use Rattle.callers.proofs.StoredForms.{never_joined}
 
--- a comparison tells equality of what the members stand for
+-- a comparison returns Equal exactly if its arguments represent the same
 abbrev Exact : {X Y : Type 0} → (X → X → Ordering) → (X → Y) → Type 0
 Exact {X} cmp f = (x y : X) → (cmp x y ≡ Equal) ↔ (f x ≡ f y)
 
@@ -53,7 +54,7 @@ module _ {I : Type 0} (value : I → ℤ) (cmp : I → I → Ordering) (order : 
   abbrev pub polygon_cmp : Vec (Vec (IntPoint I)) → Vec (Vec (IntPoint I)) → Ordering
   polygon_cmp s t = slice_cmp (λ v w. slice_cmp (point_cmp value cmp order) v.items w.items) s.items t.items
 
-  -- two polygons are told equal exactly where they have the same points
+  -- two polygons compare equal exactly if they have the same points
   pub polygons_exact : Exact polygon_cmp (λ s. shape_of value s.items)
   polygons_exact s t =
       lists_exact (λ v w. slice_cmp (point_cmp value cmp order) v.items w.items) (λ v. contour_of value v.items) (λ v w. lists_exact (point_cmp value cmp order) (point_of value) points_exact v.items w.items) s.items t.items
@@ -70,7 +71,7 @@ contains_here : {X : Type 0} (x : X) (xs : List X) (y : X) → x ≡ y → Conta
 contains_here x xs y e = (0, omega arith, e)
 
 module _ {K Y : Type 0} (cmp : K → K → Ordering) (g : K → Y) (exact : Exact cmp g) where
-  -- a set has a key exactly where what the key stands for is there
+  -- a set has a key exactly if the list of what its keys represent contains what the key represents
   pub key_listed : (k : K) (ks : List K) → IsTrue (list_any (is_at (cmp k)) ks) ↔ Contains (map g ks) (g k)
   key_listed k [] = (λ t. absurd cc, λ h. absurd (omega (arith, h.1)))
   key_listed k (x ∷ ks) = go (cmp k x) (exact k x) (key_listed k ks)
@@ -111,7 +112,7 @@ module _ {K Y : Type 0} (cmp : K → K → Ordering) (g : K → Y) (exact : Exac
 same_by_form : (s t l m : List (List Point)) → ShapeForm CanonicalAnswer s (Some l) → ShapeForm CanonicalAnswer t (Some m) → (l ≡ m) ↔ SamePolygon s t
 same_by_form s t l m a b = canonical_shapes s t l m a b
 
--- what is the same as a polygon that has a form stands too
+-- a polygon that equals one with a form has a form
 never_same : (s t l : List (List Point)) → ShapeForm CanonicalAnswer s (Some l) → OuterCollapses t → SamePolygon s t → ⊥
 never_same s [] l a collapses same = collapses
 never_same [] (d ∷ t) l a collapses same = same
@@ -132,7 +133,7 @@ module _ (store : List (List (List Point))) (forms : AreOwnForms store) where
       from : IsPolygonFound store s → Contains store l
       from (form, there, same) = subst (Contains store) ((same_by_form form s form l (own form there) a).1 same) there
 
-  -- and nothing is found for a polygon that collapses
+  -- for a polygon that collapses nothing is found
   pub no_polygon_found : (s : List (List Point)) → OuterCollapses s → IsPolygonFound store s → ⊥
   no_polygon_found s collapses (form, there, same) = never_same form s form (own form there) collapses same
 
@@ -169,12 +170,12 @@ own_forms_more cmp g exact ks k s a forms =
     ] in
     λ i d h. own (slice_index_or (map g (insert_key cmp ks k)) i d) (i, h, same_place (map g (insert_key cmp ks k)) i d (slice_index_or (map g (insert_key cmp ks k)) i d) h)
 
--- a set answers whether a key is new
+-- a set returns whether a key is new
 pub was_there : (added there : Bool) → added ≡ not there → added ≡ false → IsTrue there
 was_there added true e f = refl
 was_there added false e f = absurd (false≢true (sym f ∙ e))
 
--- where a set answers that a key is new, it was not there
+-- if a set returns that a key is new, it wasn't there
 pub was_missing : (added there : Bool) → added ≡ not there → added ≡ true → IsTrue there → ⊥
 was_missing added true e f t = false≢true (sym e ∙ f)
 was_missing added false e f t = false≢true t

@@ -2,7 +2,8 @@
 
 ghost use Rattle.std.specs.Prelude.{◌≡◌, ◌↔◌, ◌⊎◌, ◌<◌, length, take, IsTrue, IfOk, IsErrOf};
 ghost use Rattle.std.specs.List.{All};
-ghost use Rattle.i_shape_core.specs.IntPoint.{point_of, contour_of, IsSafe};
+ghost use Rattle.i_shape_core.specs.IntPoint.{point_of, IsSafe};
+ghost use Rattle.i_shape_core.specs.Reading.{read};
 ghost use Rattle.i_shape_core.specs.Edges.{shoelace};
 ghost use Rattle.i_shape_core.specs.Cleaners.{SimpleAnswer};
 ghost use Rattle.i_shape_core.specs.Written.{slot};
@@ -31,7 +32,7 @@ fn each_is_safe<P: ContourPoint>(points: &[P]) -> bool
 /// Returns whether each point is safe.
 pub fn are_safe<P: ContourPoint>(points: &[P]) -> bool
     ensures { IsTrue result ↔ All (IsSafe P.Coordinate.width)
-        (contour_of P.Coordinate.value (P.points points.now)) }
+        (read P.Coordinate.value P.points points.now) }
 {
     each_is_safe(points)
 }
@@ -46,17 +47,15 @@ pub fn clean_into<P: ContourPoint>(
     out: &mut [P],
 ) -> Result<usize, Refusal>
     ensures range { IsErrOf result Refusal.OutOfRange
-        ↔ (All (IsSafe P.Coordinate.width) (contour_of P.Coordinate.value (P.points contour.now))
+        ↔ (All (IsSafe P.Coordinate.width) (read P.Coordinate.value P.points contour.now)
         → ⊥) }
     ensures room { IsErrOf result Refusal.NoRoom
-        ↔ (All (IsSafe P.Coordinate.width) (contour_of P.Coordinate.value (P.points contour.now))
+        ↔ (All (IsSafe P.Coordinate.width) (read P.Coordinate.value P.points contour.now)
         × ((length between.old < length contour.now) ⊎ (length out.old < length contour.now))) }
-    ensures answer { IfOk result
-        (λ n. SimpleAnswer (contour_of P.Coordinate.value (P.points contour.now))
-        (slot (contour_of P.Coordinate.value (P.points (take n out.new))))) }
-    ensures area { IfOk result
-        (λ n. shoelace (contour_of P.Coordinate.value (P.points (take n out.new)))
-        ≡ shoelace (contour_of P.Coordinate.value (P.points contour.now))) }
+    ensures answer { IfOk result (λ n. SimpleAnswer (read P.Coordinate.value P.points contour.now)
+        (slot (read P.Coordinate.value P.points (take n out.new)))) }
+    ensures area { IfOk result (λ n. shoelace (read P.Coordinate.value P.points (take n out.new))
+        ≡ shoelace (read P.Coordinate.value P.points contour.now)) }
 {
     if !are_safe(contour) {
         return Err(Refusal::OutOfRange);

@@ -1,21 +1,26 @@
-//! Every path to a name of the library, and the calls that the other modules of this crate don't make. Each occurs
-//! once, with the types that a caller would write.
+//! The names that callers rely on and that the other modules of this crate don't use: the paths, calls and fields of
+//! the Rust crate `i_shape`, as far as they are here, and of what is only here the calls on numbers, `Probe`, counted
+//! calls, the canonical form of a contour and the tests of ranges. If one gets another name, other types or a further
+//! condition, this module no longer checks. Tests use the other names: `i_shape_tests` those of the laws, and with
+//! `refusals` those of the program.
 
 ghost use Rattle.std.specs.Prelude.{◌≡◌, ◌≤◌, vec_len};
-ghost use Rattle.std.specs.List.{sum_by};
+ghost use Rattle.std.specs.List.{All, sum_by};
 ghost use Rattle.i_shape_core.specs.IntPoint.{point_of};
 ghost use Rattle.i_shape_core.specs.Point.{origin};
+ghost use Rattle.i_shape.specs.ShapeAnswers.{HasPoints};
+ghost use Rattle.i_shape.specs.ShapeLists.{shape_of, shapes_of};
 
 use i_shape::base::data::{Contour, Path, Paths, Shape, Shapes};
 use i_shape::flat::buffer::{FlatContoursBuffer, FlatShapesBuffer};
 use i_shape::flat::float::{FloatFlatContoursBuffer, FloatFlatShapesBuffer};
 use i_shape::int::area::{Area, IteratorArea, UnsafeArea};
 use i_shape::int::count::{self, PointsCount};
-use i_shape::int::despike::{DeSpikeContour, DeSpikeShape, DeSpikeShapes};
+use i_shape::int::despike::{DeSpike, DeSpikeContour, DeSpikeShape, DeSpikeShapes};
 use i_shape::int::path::{ContourExtension, IntPath, IntPaths};
 use i_shape::int::safe_range::IntSafeRange;
 use i_shape::int::shape::{IntContour, IntShape, IntShapes};
-use i_shape::int::simple::{ContourSimplifier, SimpleContour, SimpleShape, SimpleShapes};
+use i_shape::int::simple::{ContourSimplifier, SimpleContour, SimpleShape, SimpleShapes, Simplify};
 use i_shape::int::{IntPoint, Origin};
 use i_shape::source::float::buffer::{
     FloatContoursBufferResourceIterator, FloatShapesBufferResourceIterator,
@@ -51,6 +56,14 @@ pub fn point_zero<I: IntNumber>() -> IntPoint<I>
     IntPoint::<I>::ZERO
 }
 
+/// Returns the point of height zero above or below a point.
+pub fn foot<I: i_shape_core::IntNumber>(point: IntPoint<I>) -> IntPoint<I> {
+    IntPoint {
+        x: point.x,
+        y: I::ZERO,
+    }
+}
+
 /// Returns the cross and dot product of the vectors from `a` to `b` and to `c`, and whether the three points turn
 /// clockwise. `None` where one isn't safe.
 pub fn products<I: IntNumber>(
@@ -82,6 +95,28 @@ pub fn measures<I: IntNumber>(contour: &[IntPoint<I>]) -> Option<(I::Wide, I::Wi
     ))
 }
 
+/// Returns twice the signed areas of a shape and of a list, and the signed areas. Each contour must have a point.
+pub fn areas<I: IntNumber>(
+    shape: &[IntContour<I>],
+    shapes: &[IntShape<I>],
+) -> ([I::Wide; 2], [I::Wide; 2])
+    requires of_shape { All HasPoints (shape_of I.value shape.now) }
+    requires of_list { All (All HasPoints) (shapes_of I.value shapes.now) }
+{
+    (
+        [shape.area_two(), shapes.area_two()],
+        [shape.area(), shapes.area()],
+    )
+}
+
+/// Returns whether a contour contains a point. `None` where a point isn't safe.
+pub fn contains<I: IntNumber>(contour: &[IntPoint<I>], point: IntPoint<I>) -> Option<bool> {
+    if !contour.is_in_safe_range() || !point.is_in_safe_range() {
+        return None;
+    }
+    Some(contour.contains_point(point))
+}
+
 /// Returns the turn of a contour's first three points, and the visits so far. `None` where it has fewer points, or one
 /// isn't safe.
 pub fn first_turn<I: IntNumber>(contour: &[IntPoint<I>]) -> Option<(Turn, u128)> {
@@ -95,6 +130,14 @@ pub fn first_turn<I: IntNumber>(contour: &[IntPoint<I>]) -> Option<(Turn, u128)>
     let turn = probe.turn(0, 1, 2);
     probe.skip();
     Some((turn, probe.visits()))
+}
+
+/// Returns whether cleaning removes the vertex: it goes straight on, turns back or stands still.
+pub fn is_zero_turn(turn: Turn) -> bool {
+    match turn {
+        Turn::Turning => false,
+        Turn::Straight | Turn::Back => true,
+    }
 }
 
 /// Returns the first point of a contour, kept by a probe without a visit.
@@ -134,8 +177,9 @@ pub fn cleaned<I: IntNumber>(
         return Ok([None, None, None]);
     }
     let points = contour.as_slice();
-    let simple = ContourSimplifier::new(alloc).simplify_contour(points)?;
-    let form = points.canonical(alloc)?;
+    let mut simplifier = ContourSimplifier::new(alloc);
+    let simple = simplifier.simplify_contour(points)?;
+    let form = simplifier.canonical(points)?;
     Ok([simple, form, contour.despiked_contour(alloc)?])
 }
 
@@ -149,6 +193,23 @@ pub fn cleaned_shape<I: IntNumber>(
     }
     let simple = shape.as_slice().simplified(alloc)?;
     Ok([simple, shape.despiked_shape(alloc)?])
+}
+
+/// Removes spikes from a shape in place, or all zero turns. Returns whether a contour had to be cleaned, or `None`
+/// where a point isn't safe.
+pub fn clean_shape<I: IntNumber>(
+    shape: &mut IntShape<I>,
+    only_spikes: bool,
+) -> Result<Option<bool>, ShapeError> {
+    if !shape.is_in_safe_range() {
+        return Ok(None);
+    }
+    let was_unclean = if only_spikes {
+        shape.remove_spikes()?
+    } else {
+        shape.simplify_contour()?
+    };
+    Ok(Some(was_unclean))
 }
 
 /// Returns a list without zero turns, and without spikes. Both are empty where a point isn't safe.
@@ -258,6 +319,43 @@ pub fn read<I: IntNumber>(
     Ok(Some((contours.to_contours()?, shapes.to_shapes()?)))
 }
 
+/// Returns the lengths of the lists of two buffers, or `None` where neither has a point.
+pub fn lengths<I: IntNumber>(
+    contours: &FlatContoursBuffer<I>,
+    shapes: &FlatShapesBuffer<I>,
+) -> Option<([usize; 2], [usize; 3])> {
+    if contours.is_empty() && shapes.is_empty() {
+        return None;
+    }
+    Some((
+        [contours.points.len(), contours.ranges.len()],
+        [
+            shapes.points.len(),
+            shapes.contour_ranges.len(),
+            shapes.shape_ranges.len(),
+        ],
+    ))
+}
+
+/// Returns empty buffers of shapes, over integer points and over points of any type.
+pub fn empty<I: IntNumber, P: Copy>(
+    alloc: Global,
+) -> (FlatShapesBuffer<I>, FloatFlatShapesBuffer<P>) {
+    (
+        FlatShapesBuffer::new(alloc),
+        FloatFlatShapesBuffer::new(alloc),
+    )
+}
+
+/// A point of one's own, for buffers and resources over points of any type.
+#[derive(Clone, Copy)]
+pub struct Place {
+    pub east: i32,
+    pub north: i32,
+}
+
+impl ShapePoint for Place {}
+
 /// Returns buffers over points of any type, filled from slices, iterators and a resource.
 pub fn gathered<P: ShapePoint + Drop>(
     alloc: Global,
@@ -267,16 +365,60 @@ pub fn gathered<P: ShapePoint + Drop>(
 ) -> Result<(FloatFlatContoursBuffer<P>, FloatFlatShapesBuffer<P>), ShapeError> {
     let mut contours = FloatFlatContoursBuffer::with_capacity(alloc, points.len(), ranges.len())?;
     contours.set_flat(points, ranges)?;
+    contours.set_with_iter(points.iter().copied(), ranges)?;
     contours.set_with_resource(paths)?;
     contours.clear_and_reserve(points.len(), 2)?;
     contours.add_contour(points)?;
     contours.add_contour_iter(points.iter().copied())?;
     let mut shapes = FloatFlatShapesBuffer::with_capacity(alloc, points.len(), 1, 1)?;
+    shapes.set_flat(points, ranges, ranges)?;
+    shapes.set_with_iter(points.iter().copied(), ranges, ranges)?;
     shapes.set_with_resource(paths)?;
     shapes.clear_and_reserve(points.len(), 2, 2)?;
     shapes.add_contour(points)?;
     shapes.add_contour_iter(points.iter().copied())?;
     Ok((contours.clone()?, shapes.clone()?))
+}
+
+/// Returns what is read back of two buffers over points of any type, or `None` where one can't be read.
+pub fn read_of_any_kind<P: Copy>(
+    contours: &FloatFlatContoursBuffer<P>,
+    shapes: &FloatFlatShapesBuffer<P>,
+) -> Result<Option<(Shape<P>, Shapes<P>)>, ShapeError> {
+    if !contours.can_read_contours() || !shapes.can_read_shapes() {
+        return Ok(None);
+    }
+    Ok(Some((contours.to_contours()?, shapes.to_shapes()?)))
+}
+
+/// Returns the contours of a buffer of shapes over points of any type. There are none where it has no point, or can't
+/// be read.
+pub fn contours_of_any_kind<P: Copy>(
+    alloc: Global,
+    shapes: &FloatFlatShapesBuffer<P>,
+) -> Result<Shape<P>, ShapeError> {
+    if shapes.is_empty() || !shapes.can_read_contours() {
+        return Ok(Vec::new(alloc));
+    }
+    shapes.to_contours()
+}
+
+/// Returns the lengths of the lists of two buffers over points of any type, or `None` where the first has no point.
+pub fn lengths_of_any_kind<P: Copy>(
+    contours: &FloatFlatContoursBuffer<P>,
+    shapes: &FloatFlatShapesBuffer<P>,
+) -> Option<([usize; 2], [usize; 3])> {
+    if contours.is_empty() {
+        return None;
+    }
+    Some((
+        [contours.points.len(), contours.ranges.len()],
+        [
+            shapes.points.len(),
+            shapes.contour_ranges.len(),
+            shapes.shape_ranges.len(),
+        ],
+    ))
 }
 
 /// Returns the first paths of resources over integer points, by the names of their iterators.
@@ -293,13 +435,17 @@ pub fn lent<'a, I: IntNumber>(
     [path.next(), shape.next(), shapes.next(), slices.next()]
 }
 
-/// Returns how many paths a buffer has, by the name of its iterator, or `None` where the buffer can't be read.
-pub fn lent_by_buffer<I: IntNumber>(buffer: &FlatContoursBuffer<I>) -> Option<usize> {
-    if !buffer.can_read_contours() {
+/// Returns how many paths two buffers have, by the name of their iterator, or `None` where one can't be read.
+pub fn lent_by_buffers<I: IntNumber>(
+    contours: &FlatContoursBuffer<I>,
+    shapes: &FlatShapesBuffer<I>,
+) -> Option<[usize; 2]> {
+    if !contours.can_read_contours() || !shapes.can_read_contours() {
         return None;
     }
-    let paths: IntBufferResourceIterator<'_, I> = buffer.iter_paths();
-    Some(paths.len())
+    let of_contours: IntBufferResourceIterator<'_, I> = contours.iter_paths();
+    let of_shapes: IntBufferResourceIterator<'_, I> = shapes.iter_paths();
+    Some([of_contours.len(), of_shapes.len()])
 }
 
 /// Returns the first paths of resources over points of any type, by the names of their iterators.
@@ -324,10 +470,39 @@ pub fn lent_of_any_kind<'a, P: ShapePoint>(
     ]
 }
 
-/// Returns the double area of the points of a nonempty iterator, by either name.
-pub fn of_three<I: IntNumber>(points: [IntPoint<I>; 3]) -> (I::Wide, I::Wide) {
-    (
+/// Whether an iterator is one over a buffer of shapes. Two names of one type couldn't both implement it.
+trait BufferIterator {
+    fn is_of_shapes(&self) -> bool;
+}
+
+impl<'a, P> BufferIterator for FloatContoursBufferResourceIterator<'a, P> {
+    fn is_of_shapes(&self) -> bool {
+        false
+    }
+}
+
+impl<'a, P> BufferIterator for FloatShapesBufferResourceIterator<'a, P> {
+    fn is_of_shapes(&self) -> bool {
+        true
+    }
+}
+
+/// Returns which of the iterators over two buffers is one over a buffer of shapes.
+pub fn are_of_shapes<P: ShapePoint>(
+    contours: &FloatFlatContoursBuffer<P>,
+    shapes: &FloatFlatShapesBuffer<P>,
+) -> [bool; 2] {
+    [
+        contours.iter_paths().is_of_shapes(),
+        shapes.iter_paths().is_of_shapes(),
+    ]
+}
+
+/// Returns the double area of the points of a nonempty iterator, by either name, and the area.
+pub fn of_three<I: IntNumber>(points: [IntPoint<I>; 3]) -> [I::Wide; 3] {
+    [
         points.iter().copied().unsafe_area(),
         points.iter().copied().area_two(),
-    )
+        points.iter().copied().area(),
+    ]
 }

@@ -58,8 +58,8 @@ fn contours_are_added_up_before_they_are_halved(rt: HostRuntime) -> Result<(), F
     Ok(())
 }
 
-/// The contour, a square about zero that is wound so often, has these areas, and is its own end and form. Wound twice, its area wraps to that of a clockwise
-/// one, and it contains nothing.
+/// The contour, a square about zero that is wound so often, has these areas, and is its own end and form. Wound twice,
+/// its area wraps to that of a clockwise one, and it contains nothing.
 fn winds<I: IntNumber>(
     row: &Row<'_, impl Abort>,
     (times, points): (isize, &[[I; 2]]),

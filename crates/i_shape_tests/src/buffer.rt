@@ -94,6 +94,7 @@ fn shapes_are_set_and_added_one_by_one(rt: HostRuntime) -> Result<(), Fail> {
     buffer.add_shape(&[])?;
     has_shapes(&row, &buffer, ["", "", "0..0", "/"])?;
     let mut contours = FlatContoursBuffer::with_capacity(row.alloc, 4)?;
+    row.holds(contours.is_empty(), "a new buffer of contours");
     contours.set_with_shapes(given.as_slice())?;
     row.holds(contours.clone()? == contours, "a copy");
     has_contours(&row, &contours, [POINTS, RANGES, THREE_CONTOURS])?;
@@ -162,7 +163,8 @@ const READABLE: [(&str, &str, bool, Option<&str>); 4] = [
     ("1 2 3 4", "0..2 1..2 2..2", true, Some("1 2 3 4;3 4;;")),
 ];
 
-/// Points, ranges of contours and of shapes, and the shapes where all ranges can be read, among them those of shapes that are reversed.
+/// Points, ranges of contours and of shapes, and the shapes where all ranges can be read, among them those of shapes
+/// that are reversed.
 const READABLE_SHAPES: [(&str, [&str; 2], Option<&str>); 5] = [
     ("1 1", ["0..1", "2..1"], Some("/")),
     ("", ["", "5..5"], Some("/")),
@@ -194,7 +196,7 @@ fn ranges_can_be_read_or_not(rt: HostRuntime) -> Result<(), Fail> {
     Ok(())
 }
 
-/// A number below the bound. Each is told by the one before it, which the seed keeps.
+/// A number below the bound. Each follows from the one before it, which the seed keeps.
 fn draw(seed: &mut u32, bound: u32) -> u32
     requires { 0 < bound }
     ensures { result < bound }
@@ -246,7 +248,7 @@ fn simplify(
     buffer.simplify_contours()
 }
 
-/// The buffer is cleaned to the other, and it is told whether that changed it. It then stays.
+/// Cleaning leaves the other buffer, and returns whether that changed anything. A second call changes nothing.
 fn cleans(
     row: &Row<'_, impl Abort>,
     mut buffer: FlatContoursBuffer<i32>,

@@ -1,8 +1,10 @@
-//! The cleaners by their one trait: whether a contour is clean, what is left of it as a copy, and what is written of it.
+//! The cleaners by their one trait: whether a contour is clean, what is left of it as a copy, and what is written of
+//! it.
 
 ghost use Rattle.std.specs.Prelude.{◌≤◌, map, length, IfOk};
 ghost use Rattle.std.specs.List.{All};
-ghost use Rattle.i_shape.specs.IntPoint.{contour_of, IsSafe};
+ghost use Rattle.i_shape.specs.IntPoint.{IsSafe};
+ghost use Rattle.i_shape.specs.Reading.{read};
 ghost use mathlib.Core.Path.{refl};
 
 use crate::given::pairs;
@@ -47,7 +49,7 @@ fn written<P: ContourPoint, C: ContourCleaner>(
     contour: &[P],
     out: &mut [P],
 ) -> Result<usize, ShapeError>
-    requires points_safe { All (IsSafe P.Coordinate.width) (contour_of P.Coordinate.value (P.points contour.now)) }
+    requires points_safe { All (IsSafe P.Coordinate.width) (read P.Coordinate.value P.points contour.now) }
     requires room { length contour.now ≤ length out.old }
     ensures fewer { IfOk result (λ n. n ≤ length out.new) }
 {
@@ -80,7 +82,8 @@ fn writes<C: ContourCleaner>(
     Ok(())
 }
 
-/// The cleaner, whatever it has cleaned before, tells whether the contour is clean, and leaves these points, as a copy and in a slice.
+/// The cleaner, whatever it has cleaned before, returns whether the contour is clean, and leaves these points, as a
+/// copy and in a slice.
 fn cleans<C: ContourCleaner>(
     row: &Row<'_, impl Abort>,
     cleaner: &mut C,
@@ -118,8 +121,8 @@ fn cleans_rows<C: ContourCleaner>(
     Ok(())
 }
 
-/// A contour, and what is left of it by the simplifier, the despiker, the remover of spikes, the canonicalizer and the one for either direction: after an equals
-/// sign where it is clean, and then itself where nothing follows.
+/// A contour, and what is left of it by the simplifier, the despiker, the remover of spikes, the canonicalizer and the
+/// one for either direction: after an equals sign where it is clean, and then itself where nothing follows.
 const ROWS: &str = "\
 4 4 0 4 0 0 4 0|=|=|=|=0 0 4 0 4 4 0 4|=0 0 0 4 4 4 4 0
 0 0 2 0 4 0 4 4 4 4|0 0 4 0 4 4|0 0 2 0 4 0 4 4|=|0 0 4 0 4 4|0 0 4 0 4 4

@@ -8,7 +8,8 @@ use i_shape::int::canonical::{CanonicalShape, CanonicalShapes};
 use i_shape::int::simple::SimpleContour;
 use std::test::Fail;
 
-/// A shape, its form, and its form either way round. The holes of the first are out of order, and its outer contour has a point on an edge.
+/// A shape, its form, and its form either way round. The holes of the first are out of order, and its outer contour has
+/// a point on an edge.
 const FORMS: [[&str; 3]; 2] = [
     [
         "10 0 10 10 0 10 0 0 5 0; 8 6 6 6 6 8 7 7; 2 4 4 2 2 2; 1 1 2 2 3 3;",

@@ -81,6 +81,7 @@ fn has_contours(
     let lent = paths(row.alloc, lent)?;
     lends_points(row, buffer, lent.as_slice());
     lends_points(row, &buffer, lent.as_slice());
+    lends_points(row, &&buffer, lent.as_slice());
     Ok(())
 }
 
@@ -100,6 +101,7 @@ fn has_shapes(
     let lent = paths(row.alloc, lent)?;
     lends_points(row, buffer, lent.as_slice());
     lends_points(row, &buffer, lent.as_slice());
+    lends_points(row, &&buffer, lent.as_slice());
     Ok(())
 }
 

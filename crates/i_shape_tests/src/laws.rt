@@ -2,7 +2,7 @@ use i_shape::IntNumber;
 use i_shape::int::{IntPoint, Origin};
 use i_shape_core::laws;
 
-/// Each law at two contours. A law has no body, so that the calls stand is all there is to see.
+/// Each law at two contours. A law has no body, so all that can be seen is that it can be called.
 fn laws_hold<I: IntNumber>(c: &[IntPoint<I>], d: &[IntPoint<I>]) {
     laws::one_end(c);
     laws::rotated(c, d);

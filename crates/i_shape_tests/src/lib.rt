@@ -12,6 +12,8 @@ mod cleaners;
 #[cfg(test)]
 mod comparisons;
 #[cfg(test)]
+mod contacts;
+#[cfg(test)]
 mod contour;
 #[cfg(test)]
 mod debug;
@@ -39,7 +41,6 @@ mod shapes;
 mod small_grid;
 #[cfg(test)]
 mod texts;
-#[cfg(test)]
 #[cfg(test)]
 mod tool;
 #[cfg(test)]

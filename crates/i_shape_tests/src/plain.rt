@@ -1,4 +1,5 @@
-//! Plain loops over lists of points, which the cleaners are compared with. They follow the definitions, not the library's code.
+//! Plain loops over lists of points, which the cleaners are compared with. They follow the definitions, not the
+//! library's code.
 
 ghost use Rattle.std.specs.Prelude.{◌<◌, length, IfSome};
 
@@ -108,7 +109,8 @@ pub fn is_rotation(one: &[Pair], other: &[Pair]) -> bool {
     one.is_empty()
 }
 
-/// The walk that keeps points on a stack, and then takes zero turns from both of its ends: what it leaves, nothing where it collapses, and its visits.
+/// The walk that keeps points on a stack, and then takes zero turns from both of its ends: what it leaves, nothing
+/// where it collapses, and its visits.
 pub fn stack_walk(alloc: Global, list: &[Pair]) -> Result<(Vec<Pair>, u128), AllocError> {
     let mut visits: u128 = 0;
     let mut stack: Vec<Pair> = Vec::new(alloc);
@@ -148,8 +150,8 @@ pub fn stack_walk(alloc: Global, list: &[Pair]) -> Result<(Vec<Pair>, u128), All
     Ok((stack, visits))
 }
 
-/// The walk round the ring that removes back vertices, with the number of those, from its place on, that are untested: what it leaves,
-/// nothing where it collapses, and its visits.
+/// The walk round the ring that removes back vertices, with the number of those, from its place on, that are untested:
+/// what it leaves, nothing where it collapses, and its visits.
 pub fn ring_walk(alloc: Global, list: &[Pair]) -> Result<(Vec<Pair>, u128), AllocError> {
     let mut ring = Vec::from_slice(alloc, list)?;
     let mut place = 0;

@@ -6,6 +6,7 @@ ghost use Rattle.i_shape.specs.Paths.{paths_of_shapes};
 use crate::row::Row;
 use crate::texts;
 use i_shape::flat::buffer::{FlatContoursBuffer, FlatShapesBuffer};
+use i_shape::flat::float::{FloatFlatContoursBuffer, FloatFlatShapesBuffer};
 use i_shape::int::IntPoint;
 use i_shape::int::safe_range::IntSafeRange;
 use i_shape::source::float::resource::{ShapePoint, ShapeResource};
@@ -92,7 +93,8 @@ fn another_resource_forwards_its_slice(rt: HostRuntime) -> Result<(), Fail> {
     Ok(())
 }
 
-/// An empty shape, a shape with an empty path between two paths, an empty shape, a shape of one empty path, an empty shape.
+/// An empty shape, a shape with an empty path between two paths, an empty shape, a shape of one empty path, an empty
+/// shape.
 fn some_shapes<P: Copy>(alloc: Global, path: &[P]) -> Result<[Vec<Vec<P>>; 5], Fail>
     ensures { IfOk result (λ shapes. length (paths_of_shapes shapes) ≡ 4) }
 {
@@ -119,17 +121,20 @@ fn some_paths<P: Copy>(alloc: Global, path: &[P]) -> Result<[Vec<P>; 3], Fail> {
     Ok([path.to_vec(alloc)?, Vec::new(alloc), rest])
 }
 
-/// An array, the vector of its items and a slice of that, each behind one reference and behind two, lend these paths.
+/// An array, the vector of its items and a slice of that, each behind one reference, two and three, lend these paths.
 macro_rules! lend_alike {
     ($lends:ident, $row:ident, $array:ident, $wanted:ident) => {
         $lends($row, &$array, &$wanted);
         $lends($row, &&$array, &$wanted);
+        $lends($row, &&&$array, &$wanted);
         let vector = Vec::from_array($row.alloc, $array)?;
         $lends($row, &vector, &$wanted);
         $lends($row, &&vector, &$wanted);
+        $lends($row, &&&vector, &$wanted);
         let slice = vector.as_slice();
         $lends($row, slice, &$wanted);
         $lends($row, &slice, &$wanted);
+        $lends($row, &&slice, &$wanted);
     };
 }
 
@@ -157,21 +162,24 @@ macro_rules! lend_points {
     };
 }
 
-/// A list of the points, of no point and of the last point, all borrowed, lends these three, behind one reference and behind two.
+/// A list of the points, of no point and of the last point, all borrowed, lends these three, behind one reference, two
+/// and three.
 macro_rules! lend_borrowed {
     ($lends:ident, $lends_vector:ident, $row:ident, $points:ident) => {
         let wanted = some_paths($row.alloc, $points)?;
         let array = [$points, &$points[..0], &$points[1.min($points.len())..]];
         $lends($row, &array, &wanted);
         $lends($row, &&array, &wanted);
+        $lends($row, &&&array, &wanted);
         $lends($row, array.as_slice(), &wanted);
         $lends($row, &array.as_slice(), &wanted);
+        $lends($row, &&array.as_slice(), &wanted);
         let vector = Vec::from_array($row.alloc, array)?;
         $lends_vector($row, &vector, &wanted);
     };
 }
 
-/// A vector of borrowed paths lends them, behind one reference and behind two.
+/// A vector of borrowed paths lends them, behind one reference, two and three.
 fn lends_vector<I: IntNumber>(
     row: &Row<'_, impl Abort>,
     vector: &Vec<&[IntPoint<I>]>,
@@ -179,6 +187,7 @@ fn lends_vector<I: IntNumber>(
 ) {
     lends(row, vector, wanted);
     lends(row, &vector, wanted);
+    lends(row, &&vector, wanted);
 }
 
 fn lends_points_vector(
@@ -188,6 +197,7 @@ fn lends_points_vector(
 ) {
     lends_points(row, vector, wanted);
     lends_points(row, &vector, wanted);
+    lends_points(row, &&vector, wanted);
 }
 
 fn borrowed_lend<I: IntNumber>(
@@ -331,8 +341,10 @@ fn integer_buffers_lend_each_range(rt: HostRuntime) -> Result<(), Fail> {
     assert!(rt; contours.can_read_contours() && shapes.can_read_contours());
     lends(row, &contours, wanted.as_slice());
     lends(row, &&contours, wanted.as_slice());
+    lends(row, &&&contours, wanted.as_slice());
     lends(row, &shapes, wanted.as_slice());
     lends(row, &&shapes, wanted.as_slice());
+    lends(row, &&&shapes, wanted.as_slice());
     let mut walk = (&contours).iter_paths();
     row.equal((walk.len(), walk.size_hint()), (3, (3, Some(3))), "a walk");
     walk.next();
@@ -342,6 +354,26 @@ fn integer_buffers_lend_each_range(rt: HostRuntime) -> Result<(), Fail> {
     row.equal(walk.len(), 3, "a walk of shapes");
     walk.next();
     row.equal(walk.count(), 2, "a walk of shapes after a path");
+    Ok(())
+}
+
+/// The iterators other than those of integer buffers give no hint of how many paths are left.
+#[test]
+fn other_walks_give_no_hint(rt: HostRuntime) -> Result<(), Fail> {
+    let row = Row::new(&rt, rt.alloc(), "other walks");
+    let points = [WholePoint { x: 7, y: 1 }, WholePoint { x: 2, y: -3 }];
+    let paths = some_paths(row.alloc, points.as_slice())?;
+    let shapes = some_shapes(row.alloc, points.as_slice())?;
+    let mut contours = FloatFlatContoursBuffer::new(row.alloc);
+    contours.set_with_resource(&paths)?;
+    let mut list = FloatFlatShapesBuffer::new(row.alloc);
+    list.set_with_resource(&paths)?;
+    let none = (0, None);
+    row.equal(points.as_slice().iter_paths().size_hint(), none, "a path");
+    row.equal((&paths).iter_paths().size_hint(), none, "a shape");
+    row.equal((&shapes).iter_paths().size_hint(), none, "a list");
+    row.equal((&contours).iter_paths().size_hint(), none, "a buffer");
+    row.equal((&list).iter_paths().size_hint(), none, "a shapes buffer");
     Ok(())
 }
 

@@ -4,7 +4,7 @@ use std::alloc::Global;
 use std::fmt::Debug;
 use std::process::Abort;
 
-/// What the test of a row runs on, and the name of the row, which a failure tells.
+/// What the test of a row runs on, and the name of the row, which a failure reports.
 #[derive(Clone, Copy)]
 pub struct Row<'a, A> {
     pub rt: &'a A,
@@ -23,7 +23,7 @@ impl<'a, A: Abort> Row<'a, A> {
         assert!(self.rt; fact, "{name}: {what}");
     }
 
-    /// What a call answers for this row is what is wanted.
+    /// What a call returns for this row is what is wanted.
     pub fn equal<T: PartialEq + Debug + Drop>(&self, kept: T, wanted: T, what: &str) {
         let name = self.name;
         assert_eq!(self.rt; kept, wanted, "{name}: {what}");

@@ -9,7 +9,7 @@ use i_shape_tool::{clean_through_buffer, despike_through_buffer};
 use std::process::Abort;
 use std::test::Fail;
 
-/// Without zero turns `left` is left of the list, and it is told in place whether that changed it.
+/// Without zero turns `left` is left of the list, and the call in place returns whether that changed it.
 fn list_is_simplified(
     row: &Row<'_, impl Abort>,
     given: &str,
@@ -44,7 +44,8 @@ fn list_is_despiked(
     Ok(())
 }
 
-/// The answer is the shape of the list, or none where the list has none, and what is left in place is that shape or empty.
+/// The answer is the shape of the list, or none where the list has none, and what is left in place is that shape or
+/// empty.
 fn is_of(answer: Option<IntShape<i32>>, left: &IntShape<i32>, list: &IntShapes<i32>) -> bool {
     match (answer, list.first()) {
         (Some(shape), Some(wanted)) => shape == *wanted && left == wanted,
@@ -93,6 +94,7 @@ const LISTS: &str = "\
 -10 -10 -10 10 10 10 10 -10; -5 -5 5 -5 -5 -5;/|-10 -10 -10 10 10 10 10 -10;/|-10 -10 -10 10 10 10 10 -10;/
 0 0 4 0 4 4 0 4; 1 1 2 2 3 3;/|0 0 4 0 4 4 0 4;/|0 0 4 0 4 4 0 4;/
 0 0 4 0 4 4 0 4; 1 1 2 2 3 3;//|0 0 4 0 4 4 0 4;//|0 0 4 0 4 4 0 4;//
+0 0 512 0 1 0;/||
 0 0 1 0 1 0 2 0 2 2 0 2 0 0;/|2 0 2 2 0 2 0 0;/|0 0 1 0 1 0 2 0 2 2 0 2 0 0;/
 0 0 2 0 4 0 2 0 2 2 0 2; 1 1 2 2 3 3;/|0 0 2 0 2 2 0 2;/|0 0 2 0 2 2 0 2;/
 -10 -10 -10 10 10 10 -10 10 -10 -10 10 -10; -5 -5 5 -5 5 5 -5 5; -5 -5 5 -5 5 5 -5 5;/||

@@ -24,8 +24,8 @@ fn list_of(alloc: Global, count: usize, code: usize) -> Result<Vec<Pair>, AllocE
     Ok(list)
 }
 
-/// `simplify_counted` leaves what the plain walk over a stack leaves, with its visits, and both orders of deletion end in
-/// rotations of that, or collapse where it is `None`. That ring is what is left.
+/// `simplify_counted` leaves what the plain walk over a stack leaves, with its visits, and both orders of deletion end
+/// in rotations of that, or collapse where it is `None`. That ring is what is left.
 fn simplifies_as_the_stack_walk(
     row: &Row<'_, impl Abort>,
     simplifier: &mut ContourSimplifier,
@@ -44,8 +44,8 @@ fn simplifies_as_the_stack_walk(
     Ok(kept)
 }
 
-/// `despiked_counted` is `None` exactly where no ring is left, its `Some` is what the plain walk round the ring leaves and is
-/// simplified to the same ring, and its visits are those of the plain walk.
+/// `despiked_counted` is `None` exactly where no ring is left, its `Some` is what the plain walk round the ring leaves
+/// and is simplified to the same ring, and its visits are those of the plain walk.
 fn despikes_as_the_ring_walk(
     row: &Row<'_, impl Abort>,
     simplifier: &mut ContourSimplifier,
@@ -69,7 +69,8 @@ fn despikes_as_the_ring_walk(
     Ok(())
 }
 
-/// Both counted cleaners leave of the lists of so many points that have these codes, each times the factor, what the plain walks leave, by as many visits.
+/// Both counted cleaners leave of the lists of so many points that have these codes, each times the factor, what the
+/// plain walks leave, by as many visits.
 fn are_cleaned_as_by_plain_loops(
     row: &Row<'_, impl Abort>,
     count: usize,

@@ -1,5 +1,5 @@
-//! What tests are given, read from texts: points by their coordinates, x and y in turn, each contour of a shape ended by a semicolon, each shape of a list by a
-//! slash, and ranges as `0..3`.
+//! What tests are given, read from texts: points by their coordinates, x and y in turn, each contour of a shape ended
+//! by a semicolon, each shape of a list by a slash, and ranges as `0..3`.
 
 ghost use Rattle.std.specs.Prelude.{IfOk};
 ghost use Rattle.std.specs.List.{All};
@@ -72,7 +72,7 @@ pub fn ranges(alloc: Global, text: &str) -> Result<Vec<Range<usize>>, Fail> {
     Ok(ranges)
 }
 
-/// A contour is left as the text has it, where an empty text stands for no contour.
+/// A contour is left as the text has it, where an empty text means no contour.
 pub fn leaves(
     row: &Row<'_, impl Abort>,
     left: Option<IntContour<i32>>,

@@ -1,4 +1,4 @@
-//! What the program answers and tells, over readers and writers in memory.
+//! The program's results and messages, over readers and writers in memory.
 
 mod answered;
 mod broken;

@@ -1,4 +1,4 @@
-//! Worked contours of 32 bits, and what each call answers of them.
+//! Worked contours at 32 bits, and what each call returns for them.
 
 use crate::given::{contour, pairs, reversed, rotated};
 use crate::plain::{Pair, has_back_vertex, is_rotation};
@@ -14,8 +14,9 @@ use std::alloc::Global;
 use std::process::Abort;
 use std::test::Fail;
 
-/// In each row: a name, the points, twice the area, also of what is left, what is left without zero turns and the visits that this takes, what the despiker leaves and its visits,
-/// whether there are spikes, and the canonical form. Nothing is left where the contour collapses.
+/// The columns: a name; the points; twice their area, which is also that of each contour that is left; the contour
+/// without zero turns, and the visits of the simplifier; the contour that the despiker leaves, and its visits; whether
+/// there are spikes; the canonical form. Where the contour collapses, the columns of contours that are left are empty.
 const ROWS: &str = "\
 a square|0 0 10 0 10 10 0 10|200|0 0 10 0 10 10 0 10|4|0 0 10 0 10 10 0 10|4|no spikes|0 0 10 0 10 10 0 10
 the square backwards|0 10 10 10 10 0 0 0|-200|0 10 10 10 10 0 0 0|4|0 10 10 10 10 0 0 0|4|no spikes|0 0 0 10 10 10 10 0
@@ -52,7 +53,8 @@ a clockwise square|-10 -10 -10 10 10 10 10 -10|-800|-10 -10 -10 10 10 10 10 -10|
 that square backwards|10 -10 10 10 -10 10 -10 -10|800|10 -10 10 10 -10 10 -10 -10|4|10 -10 10 10 -10 10 -10 -10|4|no spikes|-10 -10 10 -10 10 10 -10 10
 two ways there and back|-10 -10 -10 10 10 10 -10 10 -10 -10 10 -10|0||5||7|spikes|";
 
-/// The double area of the contour is `two`, and the area half of it towards zero, as a slice and as an iterator.
+/// The double area of the contour is `two`, and its area is half of that, rounded towards zero, as a slice and as an
+/// iterator.
 fn has_area(row: &Row<'_, impl Abort>, points: &[IntPoint<i32>], two: i64) {
     assert!(row.rt; !points.is_empty(), "no point");
     let walked = points.iter().copied();
@@ -68,7 +70,8 @@ fn has_area(row: &Row<'_, impl Abort>, points: &[IntPoint<i32>], two: i64) {
     row.equal(points.is_clockwise_ordered(), two <= 0, "clockwise");
 }
 
-/// The contour is simple where it is `left`, and each call, and the simplifier whatever it has cleaned before, leaves that by so many visits.
+/// The contour is simple exactly where it equals `left`. Each call leaves `left`, and the simplifier does so in this
+/// number of visits, whatever it has cleaned before.
 fn is_simplified(
     row: &Row<'_, impl Abort>,
     simplifier: &mut ContourSimplifier,
@@ -89,7 +92,7 @@ fn is_simplified(
     texts::leaves(row, kept, left, "simplify_contour again")
 }
 
-/// In place it becomes that too, where a second call changes nothing.
+/// In place the contour becomes `left` too, and a second call changes nothing.
 fn is_simplified_in_place(row: &Row<'_, impl Abort>, [given, left]: [&str; 2]) -> Result<(), Fail> {
     let mut cleaned = texts::contour(row, given)?;
     let is_clean = !left.is_empty() && given == left;
@@ -98,7 +101,8 @@ fn is_simplified_in_place(row: &Row<'_, impl Abort>, [given, left]: [&str; 2]) -
     texts::leaves(row, Some(cleaned), left, "what is left in place")
 }
 
-/// The contour has spikes or none; each call of the despiker leaves `left` by so many visits; and in place `cleaned` is left, where a second call changes nothing.
+/// The contour has spikes or none. Each call of the despiker leaves `left`, in this number of visits. In place a
+/// contour without spikes stays as it is, another becomes `left`, and a second call changes nothing.
 fn is_despiked(
     row: &Row<'_, impl Abort>,
     [given, left]: [&str; 2],
@@ -132,7 +136,7 @@ fn has_form(
 }
 
 #[test]
-fn each_call_answers_each_row(rt: HostRuntime) -> Result<(), Fail> {
+fn each_call_returns_what_its_row_says(rt: HostRuntime) -> Result<(), Fail> {
     let alloc = rt.alloc();
     let mut simplifier = ContourSimplifier::new(alloc);
     for line in ROWS.lines() {
@@ -181,7 +185,7 @@ const OCTAGON: &str = "\
 -314572800 209715200 -314572800 -209715200 -209715200 -314572800 209715200 -314572800
 314572800 -209715200 314572800 209715200 209715200 314572800 -209715200 314572800";
 
-/// A thousand points on a line, and one point a thousand times, are visited once each, or thrice at most.
+/// A thousand points on a line, and one point a thousand times, collapse in 998 to 3,000 visits.
 #[test]
 fn a_thousand_points_on_a_line_or_at_one_place_collapse(rt: HostRuntime) -> Result<(), Fail> {
     let row = Row::new(&rt, rt.alloc(), "a thousand points");
@@ -204,8 +208,9 @@ fn a_thousand_points_on_a_line_or_at_one_place_collapse(rt: HostRuntime) -> Resu
     Ok(())
 }
 
-/// Contours with repeated points, reversals and spikes, among them one whose despiked form depends on where it starts; the ring that is left of each without
-/// zero turns, from its least start, which is one point of it alone; and whether the despiker leaves no more, from any start.
+/// Contours with repeated points, reversals and spikes, among them one whose despiked form depends on where it starts;
+/// the ring that is left of each without zero turns, from its least start, which is one point of it alone; and whether
+/// the despiker leaves no more, from any start.
 const HOSTILE: [(&str, &str, bool); 7] = [
     (
         "0 0 0 1024 0 1024 512 1024 1024 1024 1024 1024 1024 0",

@@ -27,7 +27,7 @@ fn cloned(rt: HostRuntime) {
     on!(rt, spot_shapes(alloc, &spots::BOTH, &[0..2, 2..5]), "FloatFlatShapesBuffer::clone", it => it.clone());
 }
 
-/// Nothing takes no memory.
+/// Capacity 0, and a copy of an empty buffer, take no memory.
 #[test]
 fn new_and_cloned_of_nothing(rt: HostRuntime) {
     let alloc = rt.alloc();
@@ -50,6 +50,10 @@ fn set_with_nothing(rt: HostRuntime) {
     on!(rt, shapes(alloc, &[], &[]), "FlatShapesBuffer::set_with_shapes of nothing", it => it.set_with_shapes(&[]));
     on!(rt, spot_contours(alloc, &[], &[]), "FloatFlatContoursBuffer::set_flat of nothing", it => it.set_flat(&[], &[]));
     on!(rt, spot_shapes(alloc, &[], &[]), "FloatFlatShapesBuffer::set_flat of nothing", it => it.set_flat(&[], &[], &[]));
+    on!(rt, spot_contours(alloc, &[], &[]), "FloatFlatContoursBuffer::set_with_iter of nothing",
+        it => it.set_with_iter(Repeated { left: 0 }, &[]));
+    on!(rt, spot_shapes(alloc, &[], &[]), "FloatFlatShapesBuffer::set_with_iter of nothing",
+        it => it.set_with_iter(Repeated { left: 0 }, &[], &[]));
 }
 
 #[test]

@@ -1,4 +1,5 @@
-//! Shapes of two contours, one with a spike, and lists of one such shape: copies, forms, in place and through a buffer; and the macros.
+//! Shapes of two contours, one with a spike, and lists of one such shape: copies, forms, in place and through a buffer;
+//! and the macros.
 
 use crate::given::{SPIKED, SQUARE, TRIANGLE, one_shape, shape};
 use crate::told::{begun, call, compared, ended, on};
@@ -37,6 +38,8 @@ fn through_a_buffer(rt: HostRuntime) {
         call!(rt, "clean_through_buffer" => clean_through_buffer(alloc, given.as_slice()));
         call!(rt, "despike_through_buffer" => despike_through_buffer(alloc, given.as_slice()));
     }
+    call!(rt, "clean_through_buffer of no shape" => clean_through_buffer::<i32>(alloc, &[]));
+    call!(rt, "despike_through_buffer of no shape" => despike_through_buffer::<i32>(alloc, &[]));
 }
 
 #[test]

@@ -28,7 +28,7 @@ pub const TRIPLE: [Spot; 3] = spots![[2, 2], [3, 2], [3, 3]];
 /// The pair and the triple, end to end.
 pub const BOTH: [Spot; 5] = spots![[0, 0], [1, 0], [2, 2], [3, 2], [3, 3]];
 
-/// The same point, as often as is left. Nothing tells how often that is.
+/// The same point, as often as is left. It gives no hint of how often that is.
 #[derive(Drop)]
 pub struct Repeated {
     pub left: usize,

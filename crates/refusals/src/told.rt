@@ -8,7 +8,8 @@ pub fn begun(rt: &(impl Abort + Print), name: &str) {
     println!(rt; "{name} begins").expect(rt, name);
 }
 
-/// Tells how a call ended. The test stops at a refusal for anything but memory, and at one that changed what the call was given.
+/// Tells how a call ended. The test stops at a refusal for anything but memory, and at one that changed what the call
+/// was given.
 pub fn ended<T>(
     rt: &(impl Abort + Print),
     name: &str,
@@ -26,8 +27,13 @@ pub fn ended<T>(
     println!(rt; "{name} {end}").expect(rt, name);
 }
 
-/// Compares a call with a second one of an equal value. A run refuses one growth, so it refuses at most one of them. Where it refuses none, both answer and leave
-/// the same.
+/// Prints that a call has returned which does without memory where a growth is refused.
+pub fn answered(rt: &(impl Abort + Print), name: &str) {
+    println!(rt; "{name} answered").expect(rt, name);
+}
+
+/// Compares a call with a second one of an equal value. A run refuses one growth, so it refuses at most one of them.
+/// Where it refuses none, both answer and leave the same.
 pub fn compared<T: PartialEq + Drop>(
     rt: &impl Abort,
     name: &str,
@@ -42,7 +48,8 @@ pub fn compared<T: PartialEq + Drop>(
     assert!(rt; is_same, "{name}: a second call differs");
 }
 
-/// A call, told by its name. It is made a second time, and both answers are compared. One written as `Ok`, which nothing refuses, is made once.
+/// A call, by its name. It is made a second time, and both results are compared. One written as `Ok`, which nothing
+/// refuses, is made once.
 macro_rules! call {
     ($rt:ident, $name:expr => Ok($answer:expr)) => {{
         begun(&$rt, $name);
@@ -57,7 +64,8 @@ macro_rules! call {
     }};
 }
 
-/// A call of what is given, which it may change. Refused, it leaves that as it was, or as `refused` has it. Where what is given can't be had, there is no call.
+/// A call of what is given, which it may change. Refused, it leaves that as it was, or as `refused` has it. Where what
+/// is given can't be had, there is no call.
 macro_rules! on {
     ($rt:ident, $given:expr, $name:expr, $value:ident => $outcome:expr) => {
         on!($rt, $given, $name, $value => $outcome, refused => $given)
@@ -75,5 +83,18 @@ macro_rules! on {
     };
 }
 
+/// A call that does without memory where a growth is refused, told by its name. It is made a second time, and both
+/// answers are the same.
+macro_rules! spared {
+    ($rt:ident, $name:expr => $answer:expr) => {{
+        begun(&$rt, $name);
+        let answer = $answer;
+        answered(&$rt, $name);
+        let again = $answer;
+        assert!($rt; answer == again, "a second call differs");
+    }};
+}
+
 pub(crate) use call;
 pub(crate) use on;
+pub(crate) use spared;

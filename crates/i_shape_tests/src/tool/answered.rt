@@ -5,7 +5,7 @@ use crate::tool::given::serves;
 use i_shape_tool::{Command, run};
 use std::test::Fail;
 
-/// A command, a text, and what the command answers to it.
+/// A command, a text, and the command's answer to it.
 const ANSWERED: [(&str, &str, &str); 18] = [
     ("simplify", "", ""),
     (
@@ -61,7 +61,7 @@ fn each_text_is_answered(rt: HostRuntime) -> Result<(), Fail> {
     Ok(())
 }
 
-/// The line of a clean contour, and what each command answers to it.
+/// The line of a clean contour, and each command's answer to it.
 const LINE: &str = "0 0 4 0 4 4\n";
 
 const ANSWERS: [(Command, &str); 5] = [

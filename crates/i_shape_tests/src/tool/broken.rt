@@ -27,24 +27,38 @@ impl Read for BrokenReader {
     }
 }
 
-/// Keeps some bytes, one at a time, and then fails; a flush fails where no room is left.
+/// Keeps some bytes, one at a time, each at a second try: the first is interrupted. Then it fails, or takes no byte. A
+/// flush fails where no room is left.
 #[derive(Drop)]
 struct BrokenWriter {
     room: usize,
     kept: Vec<u8>,
+    is_tried: bool,
+    fails: bool,
 }
 
 impl BrokenWriter {
-    fn new(alloc: Global, room: usize) -> BrokenWriter {
-        let kept = Vec::new(alloc);
-        BrokenWriter { room, kept }
+    fn new(alloc: Global, room: usize, fails: bool) -> BrokenWriter {
+        BrokenWriter {
+            room,
+            kept: Vec::new(alloc),
+            is_tried: false,
+            fails,
+        }
     }
 }
 
 impl Write for BrokenWriter {
     fn write(&mut self, buf: &[u8]) -> io::Result<usize> {
-        if self.room == 0 {
+        self.is_tried = !self.is_tried;
+        if self.is_tried {
+            return Err(io::Error::from(ErrorKind::Interrupted));
+        }
+        if self.room == 0 && self.fails {
             return Err(io::Error::from(ErrorKind::BrokenPipe));
+        }
+        if self.room == 0 {
+            return Ok(0);
         }
         let Some(first) = buf.first() else {
             return Ok(0);
@@ -79,13 +93,15 @@ fn a_read_fails(rt: HostRuntime) -> Result<(), Fail> {
 #[test]
 fn a_write_or_flush_fails(rt: HostRuntime) -> Result<(), Fail> {
     let row = Row::new(&rt, rt.alloc(), "a write");
-    for (text, room, kept) in [
-        ("\n", 0, ""),
-        ("\n", 4, "none"),
-        ("\n", 5, "none\n"),
-        ("", 0, ""),
+    for (text, room, fails, kept) in [
+        ("\n", 0, true, ""),
+        ("\n", 0, false, ""),
+        ("\n", 4, true, "none"),
+        ("\n", 4, false, "none"),
+        ("\n", 5, true, "none\n"),
+        ("", 0, true, ""),
     ] {
-        let mut output = BrokenWriter::new(row.alloc, room);
+        let mut output = BrokenWriter::new(row.alloc, room, fails);
         let mut errors = Vec::new(row.alloc);
         let mut input = text.as_bytes();
         let ended = status_of(&row, &["simplify"], &mut input, &mut output, &mut errors)?;
@@ -96,13 +112,13 @@ fn a_write_or_flush_fails(rt: HostRuntime) -> Result<(), Fail> {
     Ok(())
 }
 
-/// With little room for what is told, and none, a word ends with this status.
+/// With little room for messages, or none, a word ends with this status.
 #[test]
 fn a_line_that_standard_error_does_not_take_changes_no_status(rt: HostRuntime) -> Result<(), Fail> {
     let row = Row::new(&rt, rt.alloc(), "a complaint");
     for (word, room, status) in [("simplify", 0, 1), ("simplify", 3, 1), ("simplifies", 0, 2)] {
         let mut output = Vec::new(row.alloc);
-        let mut errors = BrokenWriter::new(row.alloc, room);
+        let mut errors = BrokenWriter::new(row.alloc, room, true);
         let mut input = b"x".as_slice();
         let ended = status_of(&row, &[word], &mut input, &mut output, &mut errors)?;
         row.equal((ended, output.len()), (status, 0), "the status");

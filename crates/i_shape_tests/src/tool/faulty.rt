@@ -6,7 +6,7 @@ use i_shape_tool::{Command, ToolFault, run};
 use std::process::Abort;
 use std::test::Fail;
 
-/// Each of these commands tells this of the line that is the row's name.
+/// Each of these commands reports this of the line that is the row's name.
 fn tell(row: &Row<'_, impl Abort>, commands: &[&str], told: &str) -> Result<(), Fail> {
     for command in commands {
         serves(row, (&[*command], row.name.as_bytes()), (1, "", told))?;
@@ -30,7 +30,7 @@ const FAULTY: [&str; 10] = [
     "2147483648 0",
 ];
 
-/// Each command tells a line that is no contour, and each but the last, `area`, a point that isn't safe.
+/// Each command reports a malformed line, and each but the last, `area`, a point that isn't safe.
 #[test]
 fn a_faulty_line_is_told(rt: HostRuntime) -> Result<(), Fail> {
     for line in FAULTY {
@@ -68,7 +68,8 @@ const USAGE: &str = "usage: i_shape_tool simplify|despike|area|canonical|compact
 
 const THIRD: &str = "line 3: not a contour\n";
 
-/// Words, input, and the status and what is told: a fault leaves no output, also after an answer, and other words than one command are told the usage.
+/// Words, input, and the status and the message: a fault leaves no output, also after an answer, and words other than
+/// one command get the usage text.
 const REFUSED: [(&[&str], &[u8], u8, &str); 5] = [
     (&[], b"x", 2, USAGE),
     (&["simplify", "simplify"], b"x", 2, USAGE),

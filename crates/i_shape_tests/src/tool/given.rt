@@ -22,7 +22,8 @@ pub fn status_of<R: Read, W: Write, E: Write>(
     Ok(serve(row.alloc, words.as_slice(), input, output, errors))
 }
 
-/// A run with these words and this input leaves this. Words that name no command leave the input unread, and all others nothing of it.
+/// A run with these words and this input leaves this. Words that name no command leave the input unread, and all others
+/// nothing of it.
 pub fn serves(
     row: &Row<'_, impl Abort>,
     (words, input): (&[&str], &[u8]),
