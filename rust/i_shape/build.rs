@@ -14,5 +14,5 @@ const LEFT_OUT: [&str; 9] = [
 ];
 
 fn main() {
-    erase::build("i_shape_c", &LEFT_OUT);
+    erase::build_all(&["i_shape_c", "i_shape_contacts"], &LEFT_OUT);
 }

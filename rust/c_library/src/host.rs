@@ -6,6 +6,7 @@ use core::panic::PanicInfo;
 use core::ptr;
 
 #[cfg_attr(unix, link(name = "c"))]
+#[cfg_attr(target_env = "msvc", link(name = "msvcrt"))]
 unsafe extern "C" {
     fn abort() -> !;
     fn malloc(size: usize) -> *mut c_void;

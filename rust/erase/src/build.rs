@@ -1,8 +1,9 @@
 //! What the build scripts of the workspace call.
 
-use crate::crates::{Crates, write};
+use crate::crates::Crates;
 use crate::fault::Stop;
 use crate::lending::lending;
+use crate::write::write;
 use std::env;
 use std::path::PathBuf;
 
@@ -29,7 +30,7 @@ fn stop_at(built: Result<(), Stop>) {
 }
 
 fn try_build(names: &[&str], left_out: &[&str], lends: bool) -> Result<(), Stop> {
-    let top = told("CARGO_MANIFEST_DIR").join("../..");
+    let top = folder("CARGO_MANIFEST_DIR").join("../..");
     let top = top.canonicalize().map_err(Stop::of_file(&top))?;
     let crates = Crates::of(&top, names)?.without(left_out);
     for source in crates.sources() {
@@ -39,9 +40,12 @@ fn try_build(names: &[&str], left_out: &[&str], lends: bool) -> Result<(), Stop>
     if lends {
         erased.push(lending(&erased));
     }
-    write(erased, &told("OUT_DIR"))
+    write(erased, &folder("OUT_DIR"))
 }
 
-fn told(name: &str) -> PathBuf {
-    env::var_os(name).map(PathBuf::from).unwrap_or_default()
+/// The folder that cargo names so. There is no default: what is at the place of the erased files is removed.
+fn folder(name: &str) -> PathBuf {
+    let folder =
+        env::var_os(name).unwrap_or_else(|| panic!("cargo sets {name} for a build script"));
+    PathBuf::from(folder)
 }

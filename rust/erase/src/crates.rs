@@ -4,7 +4,7 @@ use crate::edit::{Cut, Edit, What, apply, close_gaps, in_order};
 use crate::fault::{Fault, Stop};
 use crate::imports::{cut_imports, import_shim, is_empty};
 use crate::items::{Call, ItemKind, Parsed, parse};
-use crate::words::{MODULE, SHIM, edit_words};
+use crate::words::{SHIM, edit_words};
 use std::collections::{BTreeMap, BTreeSet};
 use std::fs;
 use std::path::{Path, PathBuf};
@@ -21,8 +21,8 @@ pub struct Crates {
 
 /// A file as it is after erasing.
 pub struct ErasedFile {
-    /// Its source.
-    pub source: PathBuf,
+    /// Its source, if it is made of one.
+    pub source: Option<PathBuf>,
     /// Its place among the modules, such as `i_shape_core/point.rs`.
     pub path: PathBuf,
     pub text: String,
@@ -35,35 +35,13 @@ impl ErasedFile {
     /// A file that has no source.
     pub fn written(path: &str, text: String) -> ErasedFile {
         ErasedFile {
-            source: PathBuf::new(),
+            source: None,
             path: PathBuf::from(path),
             text,
             cuts: Vec::new(),
             calls: Vec::new(),
         }
     }
-}
-
-/// Writes the files into a folder `erased` of this one, in place of one that is there, with a file `mod.rs` that names
-/// their modules.
-pub fn write(mut files: Vec<ErasedFile>, folder: &Path) -> Result<(), Stop> {
-    let is_top = |file: &&ErasedFile| file.path.components().count() == 1;
-    let names = files
-        .iter()
-        .filter(is_top)
-        .map(|file| file.path.with_extension(""));
-    let modules = names
-        .map(|name| format!("pub mod {};\n", name.display()))
-        .collect();
-    files.push(ErasedFile::written("mod.rs", modules));
-    let folder = folder.join(MODULE);
-    if folder.exists() {
-        fs::remove_dir_all(&folder).map_err(Stop::of_file(&folder))?;
-    }
-    for file in &files {
-        write_file(&folder.join(&file.path), &file.text)?;
-    }
-    Ok(())
 }
 
 struct SourceFile {
@@ -133,7 +111,7 @@ impl Crates {
             .map(|edits| apply(&file.text, &edits))
             .map_err(|fault| Stop::at(&file.path, &file.text, fault))?;
         Ok(ErasedFile {
-            source: file.path.clone(),
+            source: Some(file.path.clone()),
             path: place_of(SHIM, &file.modules),
             text,
             cuts,
@@ -164,7 +142,7 @@ impl Crates {
                 .erase_file(name, file, parsed, &empty, &macros, dropped)
                 .map_err(|fault| Stop::at(&file.path, &file.text, fault))?;
             Ok(ErasedFile {
-                source: file.path.clone(),
+                source: Some(file.path.clone()),
                 path: place_of(name, &file.modules),
                 text,
                 cuts,
@@ -367,11 +345,4 @@ fn read_folder(
         }
     }
     Ok(())
-}
-
-fn write_file(path: &Path, text: &str) -> Result<(), Stop> {
-    if let Some(folder) = path.parent() {
-        fs::create_dir_all(folder).map_err(Stop::of_file(folder))?;
-    }
-    fs::write(path, text).map_err(Stop::of_file(path))
 }

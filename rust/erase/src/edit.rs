@@ -64,11 +64,11 @@ pub fn in_order(mut edits: Vec<Edit>) -> Vec<Edit> {
     edits.sort_by_key(|edit| (edit.range.start, usize::MAX - edit.range.end));
     let mut kept: Vec<Edit> = Vec::new();
     for edit in edits {
-        if kept
-            .last()
-            .is_none_or(|last| last.range.end <= edit.range.start)
-        {
+        let end = kept.last().map_or(0, |last| last.range.end);
+        if end <= edit.range.start {
             kept.push(edit);
+        } else {
+            assert!(edit.range.end <= end, "two edits overlap: {edit:?}");
         }
     }
     kept

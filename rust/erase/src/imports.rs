@@ -104,14 +104,15 @@ const OF_SHIM: [(&str, &[&str]); 4] = [
     ("vec", &["vec", "!", "[", "in"]),
 ];
 
-/// The same of the tests' own crate: the traits of methods.
-const OF_HOST: [(&str, &[&str]); 3] = [
+/// The same of the program's or the tests' own crate: the traits of methods.
+const OF_HOST: [(&str, &[&str]); 4] = [
     ("FallibleCollect as _", &[".", "collect", "("]),
+    ("FallibleRead as _", &[".", "read_to_end", "("]),
     ("FallibleRepeat as _", &[".", "repeat", "("]),
     ("FallibleToVec as _", &[".", "to_vec", "("]),
 ];
 
-/// Imports what Rattle's prelude has, and the shim or the tests' own crate has for it, in front of the first import or item.
+/// Imports what Rattle's prelude has, and the shim or the module `host` has for it, in front of the first import or item.
 pub fn import_shim(parsed: &Parsed<'_>) -> Option<Edit> {
     let is_cut = |place: usize| parsed.edits.iter().any(|edit| edit.range.contains(&place));
     let used = |words: &[&str]| {

@@ -108,6 +108,7 @@ impl<'a> Parser<'a> {
         self.skip_attributes()?;
         let is_public = self.is(0, "pub");
         self.skip_visibility()?;
+        let keyword = self.at;
         let edits = self.edits.len();
         let is_kept = self.item_of_keyword(first)?;
         if !is_kept {
@@ -117,35 +118,32 @@ impl<'a> Parser<'a> {
             let lines = self.lines(first, self.at - 1)?;
             self.edits.push(Edit::new(lines, "", what));
         } else if self.depth == 0 {
-            self.keep(first, is_public);
+            self.keep(first, keyword, is_public);
         }
         Ok(())
     }
 
-    fn keep(&mut self, first: usize, is_public: bool) {
+    fn keep(&mut self, first: usize, keyword: usize, is_public: bool) {
         let range = self.begun(first)..self.code[self.at - 1].end();
-        let keyword =
-            (first..self.at).find(|at| self.code[*at].is("mod") || self.code[*at].is("use"));
-        let kind = match keyword {
-            Some(at) if self.code[at].text == "use" => ItemKind::Import { is_public },
-            Some(at) if self.code[self.at - 1].is(";") => ItemKind::Module {
-                name: self.code[at + 1].text,
+        let kind = match self.code[keyword].text {
+            "use" => ItemKind::Import { is_public },
+            "mod" if self.code[self.at - 1].is(";") => ItemKind::Module {
+                name: self.code[keyword + 1].text,
                 is_public,
             },
-            _ => self.exported_macro(first),
+            "macro_rules" if self.has_attribute(first, keyword, "macro_export") => {
+                self.exported_macro(keyword)
+            }
+            _ => ItemKind::Other,
         };
         let code = first..self.at;
         self.items.push(Item { range, code, kind });
     }
 
-    /// A macro with `#[macro_export]`, or another item. The macro gets a name that no attribute of Rust has, since `use path;`
-    /// could mean either. It is imported by its own name.
-    fn exported_macro(&mut self, first: usize) -> ItemKind<'a> {
-        let at = (first..self.at).find(|at| self.code[*at].is("macro_rules"));
-        let Some(at) = at.filter(|at| self.has_attribute(first, *at, "macro_export")) else {
-            return ItemKind::Other;
-        };
-        let name = self.code[at + 2];
+    /// A macro with `#[macro_export]`. It gets a name that no attribute of Rust has, since `use path;` could mean either. It
+    /// is imported by its own name.
+    fn exported_macro(&mut self, keyword: usize) -> ItemKind<'a> {
+        let name = self.code[keyword + 2];
         let end = name.end();
         self.edits.push(Edit::new(end..end, "_macro", What::Macro));
         ItemKind::Macro { name: name.text }
@@ -194,7 +192,8 @@ impl<'a> Parser<'a> {
         while !self.is_clause() && !self.is(0, "{") && !self.is(0, ";") {
             self.skip_one()?;
         }
-        let head = self.code[self.at - 1].end();
+        let bounds = self.at;
+        let head = self.code[bounds - 1].end();
         let has_result = self.code[first..self.at]
             .windows(2)
             .any(|pair| pair[0].is("-") && pair[1].is(">"));
@@ -211,9 +210,8 @@ impl<'a> Parser<'a> {
             return Err(Fault::new(body.start, "neither a clause nor a body"));
         }
         if has_clauses {
-            let put = if body.text == ";" { "" } else { " " };
-            self.edits
-                .push(Edit::new(head..body.start, put, What::Clauses));
+            let clauses = self.clauses_to(body, head, &self.code[first..bounds]);
+            self.edits.push(clauses);
         }
         if self.has_attribute(first, keyword, "test") {
             self.test(keyword, body)?;
@@ -227,6 +225,19 @@ impl<'a> Parser<'a> {
             return Err(Fault::new(body.start, "a law that is a method"));
         }
         Ok(!is_law)
+    }
+
+    /// The cut of clauses between a head and a body. Behind bounds by `where` the body's brace stays on a line of its own.
+    fn clauses_to(&self, body: Token<'a>, head: usize, words: &[Token<'a>]) -> Edit {
+        let line = line_start(self.source, body.start);
+        let is_apart = words.iter().any(|token| token.is("where"))
+            && self.source[line..body.start].trim().is_empty();
+        let (end, put) = match body.text {
+            ";" => (body.start, ""),
+            _ if is_apart => (line - 1, ""),
+            _ => (body.start, " "),
+        };
+        Edit::new(head..end, put, What::Clauses)
     }
 
     /// A test takes no runtime in Rust. It makes that of its own crate.
@@ -559,7 +570,8 @@ pub fn closed(code: &[Token<'_>], at: usize) -> Result<usize, Fault> {
             };
         }
     }
-    Err(Fault::new(code[at].start, "a bracket that nothing closes"))
+    let opened_at = code.get(at).or(code.last()).map_or(0, |token| token.start);
+    Err(Fault::new(opened_at, "a bracket that nothing closes"))
 }
 
 pub fn line_start(source: &str, at: usize) -> usize {

@@ -13,10 +13,12 @@ mod items;
 mod lending;
 mod token;
 mod words;
+mod write;
 
 pub use build::{build, build_all, build_library};
-pub use crates::{Crates, ErasedFile, write};
+pub use crates::{Crates, ErasedFile};
 pub use edit::{Cut, What};
 pub use fault::Stop;
 pub use items::Call;
 pub use lending::lending;
+pub use write::write;

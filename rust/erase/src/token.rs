@@ -62,9 +62,9 @@ pub fn tokens(source: &str) -> Result<Vec<Token<'_>>, Fault> {
 }
 
 /// The kind and length of the token at the front, or `None` for one that the eraser doesn't know: a block comment, a raw
-/// text, or a text without an end.
+/// text or name, or a text without an end.
 fn kind_and_length(rest: &str, first: char) -> Option<(Kind, usize)> {
-    if rest.starts_with("/*") || rest.starts_with("r\"") || rest.starts_with("r#\"") {
+    if rest.starts_with("/*") {
         return None;
     }
     if rest.starts_with("//") {
@@ -75,9 +75,15 @@ fn kind_and_length(rest: &str, first: char) -> Option<(Kind, usize)> {
     match first {
         '"' => Some((Kind::Text, quoted_length(rest, '"')?)),
         '\'' => Some(letter_or_lifetime(rest)),
-        _ if is_of_word(first) => Some((Kind::Word, word_length(rest))),
+        _ if is_of_word(first) => Some((Kind::Word, word_length(rest)))
+            .filter(|(_, length)| !begins_raw(rest.split_at(*length))),
         _ => Some((Kind::Mark, first.len_utf8())),
     }
+}
+
+/// Whether a word and what is behind it begin a raw text or a raw name.
+fn begins_raw((word, rest): (&str, &str)) -> bool {
+    matches!(word, "r" | "br" | "cr") && rest.starts_with(['"', '#'])
 }
 
 fn is_of_word(letter: char) -> bool {

@@ -15,7 +15,6 @@ pub const SHIM: &str = "fallible";
 /// What the source has, and what the Rust has for it. `SHIM` is the path of the shim.
 const WORDS: [(&str, &str); 25] = [
     ("std::alloc::", "SHIM::alloc::"),
-    ("std::simd::", "SHIM::simd::"),
     ("std::vec::Vec", "$SHIM::Vec"),
     ("std::cmp", "core::cmp"),
     ("std::error", "core::error"),
@@ -27,9 +26,10 @@ const WORDS: [(&str, &str); 25] = [
     ("str::from_utf8", "core::str::from_utf8"),
     ("str::from_utf8_unchecked", "core::str::from_utf8_unchecked"),
     (".cast_unsigned()", ".to_unsigned()"),
+    (".read_to_end(", ".fallible_read_to_end("),
     (
-        ".read_to_end(&mut bytes)",
-        ".read_to_end(bytes.as_read_buffer())",
+        "const HAS_WIDE_PRODUCTS: bool = true;",
+        "const HAS_WIDE_PRODUCTS: bool = cfg!(any(target_feature = \"sse4.1\", not(target_arch = \"x86_64\")));",
     ),
     (
         "fn fmt<W: fmt::Write>(&self, f: &mut fmt::Formatter<W>)",
@@ -54,7 +54,7 @@ const STD: [&str; 2] = ["fmt", "io"];
 /// The attributes that Rust has too.
 const ATTRIBUTES: [&str; 5] = ["cfg", "derive", "inline", "repr", "test"];
 
-const MACROS: [&str; 26] = [
+const MACROS: [&str; 27] = [
     "assert",
     "assert_eq",
     "call",
@@ -76,6 +76,7 @@ const MACROS: [&str; 26] = [
     "paths",
     "points",
     "println",
+    "spared",
     "spots",
     "unreachable",
     "vec",

@@ -162,6 +162,36 @@ pub trait Only {}
 }
 
 #[test]
+fn comments_apart_from_what_is_cut_stay() {
+    let source = "\
+//! A file.
+ghost use a.{b};
+
+// A part.
+
+/// Goes.
+fn law()
+    ensures { b }
+{}
+
+fn f() {}
+";
+    assert_eq!(
+        left("comments", source),
+        "//! A file.\n\n// A part.\n\nfn f() {}\n"
+    );
+}
+
+#[test]
+fn a_public_import_that_only_clauses_use_stays() {
+    let source = "pub use a::b;\nuse a::c;\n\nfn f()\n    ensures { b c }\n{\n    g()\n}\n";
+    assert_eq!(
+        left("public", source),
+        "pub use a::b;\n\nfn f() {\n    g()\n}\n"
+    );
+}
+
+#[test]
 fn an_empty_body_without_clauses_and_methods_without_a_body_stay() {
     let source = "\
 pub trait Walk {
@@ -178,6 +208,23 @@ pub trait Walk {
 }
 
 #[test]
+fn a_brace_behind_bounds_stays_on_its_line() {
+    let source = "\
+pub fn held<T>(of: T) -> T
+where
+    T: Copy,
+    ensures { result ≡ of }
+{
+    of
+}
+";
+    assert_eq!(
+        left("where", source),
+        source.replace("    ensures { result ≡ of }\n", "")
+    );
+}
+
+#[test]
 fn bounds_by_drop_go_and_names_with_drop_stay() {
     let source = "\
 #[derive(Drop)]
@@ -190,7 +237,7 @@ pub enum Drops {
     DropOne,
 }
 
-pub fn both<T: Drop + Copy, U: Copy + Drop>(of: T, _: U) -> T {
+pub fn both<T: Drop + Copy, U: Copy + Drop, V: Dropper + Dropping>(of: T, _: U, _: V) -> T {
     of
 }
 ";
@@ -204,7 +251,7 @@ pub enum Drops {
     DropOne,
 }
 
-pub fn both<T: Copy, U: Copy>(of: T, _: U) -> T {
+pub fn both<T: Copy, U: Copy, V: Dropper + Dropping>(of: T, _: U, _: V) -> T {
     of
 }
 ";
@@ -236,6 +283,15 @@ fn modules_of_laws_go_with_their_names() {
             (Some("trap/kept.rs"), "pub fn one() -> u8 {\n    1\n}\n"),
         ]
     );
+}
+
+#[test]
+fn a_function_that_imports_is_no_import() {
+    let item = "pub fn one() -> u8 {\n    use core::cmp;\n    cmp::max(0, 1)\n}\n";
+    let files = [("lib", "pub mod kept;\n"), ("kept", item)];
+    let files = erased("imports", &files).unwrap_or_else(|stop| panic!("{stop}"));
+    let texts: Vec<_> = files[1..].iter().map(|file| file.text.as_str()).collect();
+    assert_eq!(texts, ["pub mod kept;\n", item]);
 }
 
 #[test]
@@ -340,6 +396,11 @@ fn what_is_not_known_stops_the_eraser_with_its_line() {
             "a bracket that nothing closes",
         ),
         ("/* a comment */\n", 1, "a token"),
+        ("const A: &str = r\"a\";\n", 1, "a token"),
+        ("const A: &str = r##\"a\"b\"##, c\";\n", 1, "a token"),
+        ("const A: &[u8] = br#\"a\"b\"#, c\";\n", 1, "a token"),
+        ("struct Thing {\n    ghost: u8,\n}\n", 2, "no Rust"),
+        ("fn f() {}\n#", 2, "a bracket"),
         ("extern \"system\" fn f() {}\n", 1, "an `extern`"),
         (
             "fn law() -> u8\n    ensures { 1 }\n{}\n",

@@ -14,6 +14,7 @@ pub struct AllocError;
 /// Rattle's `AllocFailed`: memory was refused, and this couldn't be stored.
 #[derive(Clone, Copy, PartialEq, Eq)]
 pub struct AllocFailed<T> {
+    /// What couldn't be stored.
     pub value: T,
 }
 

@@ -1,13 +1,12 @@
-//! What the erased crates use of Rattle's std and Rust's doesn't have: lists and texts whose growth can be refused, and
-//! vectors of lanes.
+//! What the erased crates use of Rattle's std and Rust's doesn't have: lists and texts whose growth can be refused.
 #![no_std]
 #![forbid(unsafe_code)]
+#![warn(missing_docs)]
 
 extern crate alloc as rust_alloc;
 
 pub mod alloc;
 mod list;
-pub mod simd;
 mod string;
 mod unsigned;
 
@@ -15,8 +14,12 @@ pub use list::Vec;
 pub use string::String;
 pub use unsigned::Unsigned;
 
-/// `vec!`: a list of these items, as `vec![in alloc; x, y]?`, or of so many of one, as `vec![in alloc; x; n]?`.
-#[allow(unused_macros)]
+/// Rattle's `vec!`: a list of these items, as `vec![in alloc; x, y]?`, or of `n` clones of one, as
+/// `vec![in alloc; x; n]?`.
+#[allow(
+    unused_macros,
+    reason = "only some of the erased crates make lists by it"
+)]
 macro_rules! vec {
     (in $alloc:expr; $item:expr; $count:expr) => {
         $crate::Vec::from_elem($alloc, $item, $count)
@@ -25,5 +28,8 @@ macro_rules! vec {
         $crate::Vec::from_array($alloc, [$($item),*])
     };
 }
-#[allow(unused_imports)]
+#[allow(
+    unused_imports,
+    reason = "only some of the erased crates make lists by it"
+)]
 pub(crate) use vec;

@@ -3,12 +3,14 @@
 use super::rust_alloc::vec;
 use crate::alloc::{AllocError, AllocFailed, Global};
 use core::fmt;
+use core::hint::black_box;
 use core::ops::{Deref, DerefMut, Range};
 use core::slice;
 
 /// Rattle's `Vec`: Rust's, but each call that grows it returns an error if memory is refused, and leaves it as it was.
-/// It is a type of its own, since a method of Rust's `Vec` would go before one of a trait. It lends its items as a slice, and
-/// never as Rust's `Vec`, which grows without an error.
+///
+/// It is a type of its own, since a method of Rust's `Vec` would go before one of a trait. It lends its items as a
+/// slice, and never as Rust's `Vec`, which grows without an error.
 #[derive(PartialEq, Eq, PartialOrd, Ord, Hash)]
 #[repr(transparent)]
 pub struct Vec<T>(vec::Vec<T>);
@@ -19,7 +21,7 @@ impl<T> Vec<T> {
         Vec(vec::Vec::new())
     }
 
-    /// Rattle's `Vec::with_capacity`: an empty list with room for that many items, and no more.
+    /// Rattle's `Vec::with_capacity`: an empty list with room for at least `capacity` items.
     pub fn with_capacity(_alloc: Global, capacity: usize) -> Result<Vec<T>, AllocError> {
         let mut items = vec::Vec::new();
         items.try_reserve_exact(capacity)?;
@@ -34,7 +36,7 @@ impl<T> Vec<T> {
         Vec::from_clones(alloc, items)
     }
 
-    /// Rattle's `Vec::from_clones`: a clone of each item.
+    /// Rattle's `Vec::from_clones`: a list of a clone of each item.
     pub fn from_clones(alloc: Global, items: &[T]) -> Result<Vec<T>, AllocError>
     where
         T: Clone,
@@ -44,14 +46,14 @@ impl<T> Vec<T> {
         Ok(list)
     }
 
-    /// Rattle's `Vec::from_array`, which `vec![in alloc; x, y]` calls: these items.
+    /// Rattle's `Vec::from_array`, which `vec![in alloc; x, y]` calls: a list of these items.
     pub fn from_array<const N: usize>(alloc: Global, items: [T; N]) -> Result<Vec<T>, AllocError> {
         let mut list = Vec::with_capacity(alloc, N)?;
         list.0.extend(items);
         Ok(list)
     }
 
-    /// Rattle's `Vec::from_elem`, which `vec![in alloc; x; n]` calls: `count` clones of the item.
+    /// Rattle's `Vec::from_elem`, which `vec![in alloc; x; n]` calls: a list of `count` clones of the item.
     pub fn from_elem(alloc: Global, item: T, count: usize) -> Result<Vec<T>, AllocError>
     where
         T: Clone,
@@ -61,12 +63,12 @@ impl<T> Vec<T> {
         Ok(list)
     }
 
-    /// Rattle's `Vec::allocator`.
+    /// Rattle's `Vec::allocator`: the allocator, which is the only one.
     pub fn allocator(&self) -> &Global {
         &Global
     }
 
-    /// Rattle's `Vec::push`: appends the item. An error holds it.
+    /// Rattle's `Vec::push`: appends the item. An error holds the item.
     pub fn push(&mut self, value: T) -> Result<(), AllocFailed<T>> {
         if self.0.try_reserve(1).is_err() {
             return Err(AllocFailed { value });
@@ -75,7 +77,11 @@ impl<T> Vec<T> {
         Ok(())
     }
 
-    /// Rattle's `Vec::push_reserved`, which asks for room: appends the item, and panics if there is no room.
+    /// Rattle's `Vec::push_reserved`, whose contract requires room: appends the item, and never grows the list.
+    ///
+    /// # Panics
+    ///
+    /// If there is no room for the item.
     #[inline]
     pub fn push_reserved(&mut self, value: T) {
         // Rust's `push` may grow the list, so without this test each loop would read its address and its room again.
@@ -83,7 +89,12 @@ impl<T> Vec<T> {
         self.0.push(value);
     }
 
-    /// Rattle's `Vec::insert`: puts the item at `at`, in front of those from there on. An error holds it.
+    /// Rattle's `Vec::insert`: inserts the item at the index `at`, and moves the items from there on up by one. An
+    /// error holds the item.
+    ///
+    /// # Panics
+    ///
+    /// If `at` is above the length.
     pub fn insert(&mut self, at: usize, value: T) -> Result<(), AllocFailed<T>> {
         if self.0.try_reserve(1).is_err() {
             return Err(AllocFailed { value });
@@ -92,7 +103,7 @@ impl<T> Vec<T> {
         Ok(())
     }
 
-    /// Rattle's `Vec::capacity`: how many items the list has room for.
+    /// Rattle's `Vec::capacity`: the number of items that the list has room for.
     pub fn capacity(&self) -> usize {
         self.0.capacity()
     }
@@ -104,11 +115,6 @@ impl<T> Vec<T> {
 
     /// Rattle's `Vec::as_mut_slice`: the items, to change.
     pub fn as_mut_slice(&mut self) -> &mut [T] {
-        &mut self.0
-    }
-
-    /// Rust's list, for `Read::read_to_end` alone, which returns an error where it can't grow by `try_reserve`.
-    pub fn as_read_buffer(&mut self) -> &mut vec::Vec<T> {
         &mut self.0
     }
 
@@ -127,7 +133,11 @@ impl<T> Vec<T> {
         self.0.pop()
     }
 
-    /// Rattle's `Vec::remove`: removes the item at `at`, and returns it. Those behind it move up.
+    /// Rattle's `Vec::remove`: removes the item at the index `at`, and returns it. Those behind it move down by one.
+    ///
+    /// # Panics
+    ///
+    /// If there is no item at `at`.
     pub fn remove(&mut self, at: usize) -> T {
         self.0.remove(at)
     }
@@ -137,12 +147,16 @@ impl<T> Vec<T> {
         self.0.retain(test);
     }
 
-    /// Rattle's `Vec::slice_mut`, for `&mut list[range]`.
+    /// Rattle's `Vec::slice_mut`, for `&mut list[range]`: the items of the range, to change.
+    ///
+    /// # Panics
+    ///
+    /// If the range runs backwards or ends above the length.
     pub fn slice_mut(&mut self, range: Range<usize>) -> &mut [T] {
         &mut self.0[range]
     }
 
-    /// Rattle's `Vec::reserve`: makes room for so many more items.
+    /// Rattle's `Vec::reserve`: makes room for at least `additional` more items.
     pub fn reserve(&mut self, additional: usize) -> Result<(), AllocError> {
         Ok(self.0.try_reserve(additional)?)
     }
@@ -157,9 +171,11 @@ impl<T> Vec<T> {
         Ok(())
     }
 
-    /// Rattle's `Vec::sort_by_cached_key`: sorts by a key that is computed once for each item. Items of equal keys stay in
-    /// order. It takes as much memory as Rattle's, so that both are refused at the same calls: for more than 20 items also
-    /// the room into which Rattle's sort merges, though Rust's sorts in place.
+    /// Rattle's `Vec::sort_by_cached_key`: sorts by a key that is computed once for each item. Items of equal keys stay
+    /// in order.
+    ///
+    /// It takes as much memory as Rattle's, so that both are refused at the same calls: for more than 20 items also the
+    /// room into which Rattle's sort merges, though Rust's sorts in place.
     pub fn sort_by_cached_key<K: Ord>(&mut self, key: impl FnMut(&T) -> K) -> Result<(), AllocError>
     where
         T: Copy,
@@ -172,7 +188,8 @@ impl<T> Vec<T> {
         let mut keys = Vec::with_capacity(Global, len)?;
         keys.0.extend(self.iter().map(key).zip(0..));
         if len > SORTED_IN_PLACE {
-            Vec::<(K, usize)>::with_capacity(Global, len)?;
+            // it is never read, and without the black box a compiler may leave the allocation out
+            black_box(Vec::<(K, usize)>::with_capacity(Global, len)?);
         }
         keys.sort_unstable();
         let items = Vec::from_slice(Global, self)?;

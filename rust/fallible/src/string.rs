@@ -5,8 +5,9 @@ use crate::alloc::{AllocError, Global};
 use core::fmt::{self, Write};
 use core::ops::Deref;
 
-/// Rattle's `String`: Rust's, but each call that grows it returns an error if memory is refused. It lends its text, and never
-/// Rust's `String`, which grows without an error.
+/// Rattle's `String`: Rust's, but each call that grows it returns an error if memory is refused.
+///
+/// It lends its text, and never Rust's `String`, which grows without an error.
 #[derive(PartialEq, Eq, PartialOrd, Ord, Hash, Debug)]
 #[repr(transparent)]
 pub struct String(string::String);
@@ -36,7 +37,7 @@ impl String {
         Ok(())
     }
 
-    /// Rattle's `String::capacity`: how many bytes the text has room for.
+    /// Rattle's `String::capacity`: the number of bytes that the text has room for.
     pub fn capacity(&self) -> usize {
         self.0.capacity()
     }

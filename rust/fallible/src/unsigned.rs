@@ -1,8 +1,8 @@
-//! The bits of a number as one without a sign, which Rust has from 1.87 on.
+//! Signed numbers whose bits are read as unsigned ones. Rust's own call for this is newer than 1.85.
 
-/// A number with a sign.
+/// Reinterprets the bits of a signed number as an unsigned one.
 pub trait Unsigned {
-    /// Rattle's `i128::cast_unsigned`: the number with the same bits.
+    /// Rattle's `i128::cast_unsigned`: the unsigned number with the same bits.
     fn to_unsigned(self) -> u128;
 }
 

@@ -1,7 +1,7 @@
 //! What the shim does where memory is refused, beside the contracts of Rattle's std.
 
 use fallible::alloc::Global;
-use fallible::{String, Vec};
+use fallible::{String, Unsigned as _, Vec};
 use std::alloc::{GlobalAlloc, Layout, System};
 use std::cell::Cell;
 use std::fmt::Debug;
@@ -62,22 +62,45 @@ fn full(len: usize) -> Vec<usize> {
     list
 }
 
-/// The call fails where memory is refused, and leaves the list as it was; given it, it succeeds.
-fn fails_without_memory<E: Debug>(mut call: impl FnMut(&mut Vec<usize>) -> Result<(), E>) {
+/// The call fails where memory is refused, and leaves a list of `0..7` as it was; given it, it leaves these items.
+fn fails_without_memory<E: Debug>(
+    items: &[usize],
+    mut call: impl FnMut(&mut Vec<usize>) -> Result<(), E>,
+) {
     let mut list = full(7);
     let block = list.as_ptr();
     assert!(given(0, || call(&mut list)).is_err());
     assert_eq!((list.as_ptr(), list.capacity()), (block, 7));
     assert_eq!(list, full(7));
     assert!(given(1, || call(&mut list)).is_ok());
+    assert_eq!(list[..], *items);
 }
 
 #[test]
 fn a_refused_growth_leaves_the_list_as_it_was() {
-    fails_without_memory(|list| list.push(9));
-    fails_without_memory(|list| list.insert(3, 9));
-    fails_without_memory(|list| list.reserve(1));
-    fails_without_memory(|list| list.extend_from_slice(&[8, 9]));
+    fails_without_memory(&[0, 1, 2, 3, 4, 5, 6, 9], |list| list.push(9));
+    fails_without_memory(&[0, 1, 2, 9, 3, 4, 5, 6], |list| list.insert(3, 9));
+    fails_without_memory(&[0, 1, 2, 3, 4, 5, 6], |list| list.reserve(1));
+    fails_without_memory(&[0, 1, 2, 3, 4, 5, 6, 8, 9], |list| {
+        list.extend_from_slice(&[8, 9])
+    });
+}
+
+/// The calls that take no memory keep what there is.
+#[test]
+fn items_go_as_from_rusts_own() {
+    let mut list = full(9);
+    let block = list.as_ptr();
+    assert_eq!(list.pop(), Some(8));
+    assert_eq!(list.remove(1), 1);
+    list.retain(|item| item % 3 != 0);
+    assert_eq!(list[..], [2, 4, 5, 7]);
+    list.slice_mut(1..3).reverse();
+    list.truncate(3);
+    assert_eq!(list[..], [2, 5, 4]);
+    list.clear();
+    assert_eq!((list.pop(), list.len()), (None, 0));
+    assert_eq!((list.as_ptr(), list.capacity()), (block, 9));
 }
 
 #[test]
@@ -185,7 +208,7 @@ fn made_lists_hold_their_items_or_none_is_made() {
     assert!(given(0, || Vec::<u8>::with_capacity(Global, 0)).is_ok());
 }
 
-/// Each of its allocations can be refused, and the list stays; two more than 20 items are sorted by one allocation more.
+/// Each of its allocations can be refused, and the list stays. More than 20 items take one allocation more.
 #[test]
 fn a_refused_sort_leaves_the_list_as_it_was() {
     for (len, allocations) in [(0, 0), (1, 0), (2, 2), (20, 2), (21, 3), (50, 3)] {
@@ -197,11 +220,23 @@ fn a_refused_sort_leaves_the_list_as_it_was() {
             );
             assert_eq!(list, full(len));
         }
-        assert!(given(allocations, || list.sort_by_cached_key(|item| item % 3)).is_ok());
+        let mut keys = 0;
+        let key = |item: &usize| {
+            keys += 1;
+            item % 3
+        };
+        assert!(given(allocations, || list.sort_by_cached_key(key)).is_ok());
+        assert_eq!(keys, if len < 2 { 0 } else { len });
         let mut sorted = std::vec::Vec::from_iter(0..len);
         sorted.sort_by_key(|item| item % 3);
         assert_eq!(list[..], sorted);
     }
+}
+
+#[test]
+fn bits_stay_in_an_unsigned_number() {
+    assert_eq!((-2_i128).to_unsigned(), u128::MAX - 1);
+    assert_eq!(i128::MAX.to_unsigned(), u128::MAX >> 1);
 }
 
 #[test]

@@ -10,10 +10,12 @@ use crate::erased::i_shape_c::point::CPoint;
 use crate::erased::i_shape_c::predicates::{self, ContourTest, test_contour};
 use crate::erased::i_shape_c::version::i_shape_version;
 use crate::erased::i_shape_c::{area, winding as about};
+use crate::erased::i_shape_contacts as edges;
 use crate::erased::i_shape_core::area::UnsafeArea;
 use crate::erased::i_shape_core::cleaner::ContourCleaner;
 use crate::erased::i_shape_core::fill_rule as proved_rule;
 use crate::erased::i_shape_core::point::{self as proved, ContourPoint};
+use crate::int::contacts::{Contact, Validity};
 use crate::int::{IntNumber, IntPoint, WideIntNumber};
 use crate::memory::{copied, try_filled};
 use crate::{Error, FillRule, Location};
@@ -59,16 +61,17 @@ pub(crate) type CleanShapes<I> = fn(
     &mut [usize],
 ) -> isize;
 
-/// The version of the library: its major, minor and patch number.
+/// Returns the version of the library: its major, minor and patch number.
+#[must_use]
 pub fn library_version() -> (u32, u32, u32) {
     let version = i_shape_version();
     (version >> 16, version >> 8 & 0xff, version & 0xff)
 }
 
-/// The index of the first offset that doesn't divide so many items, `None` where each does.
+/// Returns the index of the first offset that doesn't divide `count` items, `None` if each does.
 pub(crate) fn first_bad_offset(offsets: &[usize], count: usize) -> Option<usize> {
-    let place = places::first_bad_offset(count, offsets);
-    (place < offsets.len()).then_some(place)
+    let index = places::first_bad_offset(count, offsets);
+    (index < offsets.len()).then_some(index)
 }
 
 /// Reads what a call on points returns: a number, or a code below 0. Offsets were tested before.
@@ -97,19 +100,28 @@ pub(crate) fn number_of_many<I: IntNumber>(
     number(returned, &points[first..end]).map_err(|error| error.behind(first))
 }
 
-/// If a call has refused a point: the error of the first unsafe one of those that it is asked
-/// about, if there is one.
+/// Returns the error of the first unsafe point, if there is one.
+fn check_safe<I: IntNumber>(points: &[IntPoint<I>]) -> Result<(), Error> {
+    if are_safe(points) {
+        Ok(())
+    } else {
+        Err(Error::UnsafePoint(places::first_unsafe(points)))
+    }
+}
+
+/// If a call has refused a point: returns the error of the first unsafe one of those that it is
+/// asked about, if there is one.
 fn check_about<I: IntNumber>(returned: isize, about: &[IntPoint<I>]) -> Result<(), Error> {
     if returned != Refusal::Unsafe.code() as isize {
         return Ok(());
     }
     match places::first_unsafe(about) {
-        place if place < about.len() => Err(Error::UnsafeAbout(place)),
+        index if index < about.len() => Err(Error::UnsafeAbout(index)),
         _ => Ok(()),
     }
 }
 
-/// Cleans a contour to the front of `out`, and returns how many points it has written there.
+/// Cleans a contour to the front of `out`, and returns the number of points written there.
 pub(crate) fn clean_one<C: ContourCleaner, I: IntNumber>(
     points: &[IntPoint<I>],
     out: &mut [IntPoint<I>],
@@ -117,14 +129,12 @@ pub(crate) fn clean_one<C: ContourCleaner, I: IntNumber>(
     number(clean_contour::<_, C>(Global, points, out), points)
 }
 
-/// What a cleaner leaves of the contour, `None` if it collapses. The cleaner keeps its memory.
+/// Returns what a cleaner leaves of the contour, `None` if it collapses. The cleaner keeps its memory.
 pub(crate) fn cleaned_by<C: ContourCleaner, I: IntNumber>(
     cleaner: &mut C,
     points: &[IntPoint<I>],
 ) -> Result<Option<Vec<IntPoint<I>>>, Error> {
-    if !are_safe(points) {
-        return Err(Error::UnsafePoint(places::first_unsafe(points)));
-    }
+    check_safe(points)?;
     let mut left = copied(points)?;
     let count = cleaner
         .try_clean_into(points, &mut left)
@@ -133,15 +143,15 @@ pub(crate) fn cleaned_by<C: ContourCleaner, I: IntNumber>(
     Ok((count > 0).then_some(left))
 }
 
-/// What a cleaner of its own leaves of the contour, `None` if it collapses.
+/// Returns what a cleaner of its own leaves of the contour, `None` if it collapses.
 pub(crate) fn cleaned<C: ContourCleaner, I: IntNumber>(
     points: &[IntPoint<I>],
 ) -> Result<Option<Vec<IntPoint<I>>>, Error> {
     cleaned_by(&mut C::new(Global), points)
 }
 
-/// Cleans contours to the front of `out_points` and `out_offsets`, and returns how many points it
-/// has written there.
+/// Cleans contours to the front of `out_points` and `out_offsets`, and returns the number of points
+/// written there.
 pub(crate) fn clean_many<I: IntNumber>(
     call: CleanMany<I>,
     points: &[IntPoint<I>],
@@ -153,7 +163,7 @@ pub(crate) fn clean_many<I: IntNumber>(
     number_of_many(returned, points, offsets)
 }
 
-/// Whether the contour passes a test.
+/// Returns whether the contour passes a test.
 pub(crate) fn passes<I: IntNumber>(
     points: &[IntPoint<I>],
     test: impl ContourTest<I::Proved>,
@@ -161,7 +171,7 @@ pub(crate) fn passes<I: IntNumber>(
     number(test_contour(points, test) as isize, points).map(|one| one == 1)
 }
 
-/// Whether the point is inside, by the even-odd rule.
+/// Returns whether the point is inside, by the even-odd rule.
 pub(crate) fn contains<I: IntNumber>(
     points: &[IntPoint<I>],
     point: IntPoint<I>,
@@ -171,7 +181,7 @@ pub(crate) fn contains<I: IntNumber>(
     number(returned, points).map(|one| one == 1)
 }
 
-/// Whether the rule fills the point, by how often the contour winds about it.
+/// Returns whether the rule fills the point, by the contour's winding number about it.
 pub(crate) fn contains_by<I: IntNumber>(
     points: &[IntPoint<I>],
     point: IntPoint<I>,
@@ -182,7 +192,7 @@ pub(crate) fn contains_by<I: IntNumber>(
     number(returned, points).map(|one| one == 1)
 }
 
-/// How often the contour winds about the point.
+/// Returns the contour's winding number about the point.
 pub(crate) fn winding<I: IntNumber>(
     points: &[IntPoint<I>],
     point: IntPoint<I>,
@@ -196,7 +206,7 @@ pub(crate) fn winding<I: IntNumber>(
     Ok(winding)
 }
 
-/// Writes how often the contours together wind about each point to the front of `out`.
+/// Writes the sum of the contours' winding numbers about each point to the front of `out`.
 pub(crate) fn windings<I: IntNumber>(
     points: &[IntPoint<I>],
     offsets: &[usize],
@@ -262,12 +272,65 @@ pub(crate) fn tell<T: Telling<IntPoint<I>>, I: IntNumber>(
     number_of_many(returned, points, offsets).map(drop)
 }
 
-/// Twice the signed area, `None` if there is no point.
+/// Returns the first contact of the edges of a contour.
+pub(crate) fn first_contact<I: IntNumber>(
+    points: &[IntPoint<I>],
+) -> Result<Option<Contact>, Error> {
+    check_safe(points)?;
+    Ok(edges::first_contact(Global, points).map(|found| contact_behind(0, found)))
+}
+
+/// Returns the first contact of the edges of all contours, whose offsets begin with 0 and end with
+/// the number of points. So many points lie before these.
+pub(crate) fn first_contact_of_many<I: IntNumber>(
+    points: &[IntPoint<I>],
+    offsets: &[usize],
+    before: usize,
+) -> Result<Option<Contact>, Error> {
+    debug_assert!(edges::do_divide(offsets, points.len()));
+    check_safe(points).map_err(|error| error.behind(before))?;
+    let found = edges::first_contact_of_rings(Global, points, offsets);
+    Ok(found.map(|found| contact_behind(before, found)))
+}
+
+/// Returns the same contact of a list in which so many points lie before.
+fn contact_behind(count: usize, found: edges::Contact) -> Contact {
+    Contact {
+        first: count + found.first,
+        second: count + found.second,
+    }
+}
+
+/// Returns the first fault of a polygon, whose offsets begin with 0 and end with the number of points.
+/// So many points lie before these, which its edges count; contours are counted from 0 on.
+pub(crate) fn validity_of<I: IntNumber>(
+    points: &[IntPoint<I>],
+    offsets: &[usize],
+    before: usize,
+) -> Result<Validity, Error> {
+    debug_assert!(edges::do_divide(offsets, points.len()));
+    check_safe(points).map_err(|error| error.behind(before))?;
+    Ok(match edges::validity_of(Global, points, offsets) {
+        edges::Validity::Valid => Validity::Valid,
+        edges::Validity::Collapsed { contour } => Validity::Collapsed { contour },
+        edges::Validity::Contact(found) => Validity::Contact(contact_behind(before, found)),
+        edges::Validity::HoleOutside { contour } => Validity::HoleOutside { contour },
+        edges::Validity::HoleWithin { contour, other } => Validity::HoleWithin { contour, other },
+    })
+}
+
+/// Returns whether the contour is the boundary of a simple polygon.
+pub(crate) fn is_simple_polygon<I: IntNumber>(points: &[IntPoint<I>]) -> Result<bool, Error> {
+    check_safe(points)?;
+    Ok(edges::is_simple_polygon(Global, points))
+}
+
+/// Returns twice the signed area, `None` if there is no point.
 pub(crate) fn area_two<I: IntNumber>(points: &[IntPoint<I>]) -> Option<I::Wide> {
     area::area_two(points)
 }
 
-/// Twice the signed area of the points that are left, `None` if there is none.
+/// Returns twice the signed area of the points that are left, `None` if there is none.
 pub(crate) fn area_two_of<I: IntNumber>(
     mut points: impl Iterator<Item = IntPoint<I>>,
 ) -> Option<I::Wide> {
@@ -312,7 +375,7 @@ impl<I: IntNumber> ContourMeasure<IntPoint<I>> for DoubleArea {
     }
 }
 
-/// The measure of each contour, in order. `blank` is any value of its type.
+/// Returns the measure of each contour, in order. `blank` is any value of its type.
 pub(crate) fn measured<M: ContourMeasure<IntPoint<I>>, I: IntNumber>(
     points: &[IntPoint<I>],
     offsets: &[usize],

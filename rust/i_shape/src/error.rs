@@ -2,25 +2,25 @@
 
 use core::fmt;
 
-/// Why a call refuses. What a call was lent to write is as it was after each of them, but where the
-/// call says otherwise.
+/// Why a call refuses. On an error, slices lent to the call are unchanged unless it says otherwise.
 #[derive(Clone, Copy, Debug, PartialEq, Eq, Hash)]
+#[non_exhaustive]
 pub enum Error {
     /// A point that the call reads has a coordinate outside the safe range, which lies strictly
-    /// between -2^(W-2) and 2^(W-2) at W bits.
-    /// It is the first such one: this is its place in the contour, in the points of flat contours,
-    /// or in all contours of a shape or a list end to end.
+    /// between -2^(W-2) and 2^(W-2) at W bits. Holds the index of the first such point: in the
+    /// contour, in the points of flat contours, or in all contours of a shape or a list end to end.
     UnsafePoint(usize),
-    /// A point that the call is asked about lies outside that range: the first such one, by its
-    /// place among these.
+    /// A point that the call is asked about lies outside that range. Holds the index of the first
+    /// such point among these.
     UnsafeAbout(usize),
-    /// Offsets of contours don't divide the points, or can't be made. This is the place of the
-    /// first that is below the one before it, above the number of points, or can't be made, and
-    /// `None` where there is no offset. It is tested before the points are.
+    /// Offsets of contours don't divide the points, or can't be made. Holds the index of the first
+    /// that is below the one before it, above the number of points, or can't be made, and `None` if
+    /// there is no offset. Offsets are tested before the points are.
     BadOffsets(Option<usize>),
-    /// Offsets of shapes don't divide the contours: the same as for those of contours.
+    /// Offsets of shapes don't divide the contours. Holds the index of the first that is below the
+    /// one before it or above the number of contours, and `None` if there is no offset.
     BadShapeOffsets(Option<usize>),
-    /// A slice that the call writes is too short. It is tested before the points are.
+    /// A slice that the call writes is too short. Slices are tested before the points are.
     NoRoom,
     /// An allocation failed, or a vector would be too long.
     NoMemory,
@@ -31,23 +31,26 @@ pub enum Error {
 impl fmt::Display for Error {
     fn fmt(&self, formatter: &mut fmt::Formatter<'_>) -> fmt::Result {
         match self {
-            Error::UnsafePoint(place) => {
-                write!(formatter, "point {place} isn't in the safe range")
+            Error::UnsafePoint(index) => {
+                write!(formatter, "point {index} isn't in the safe range")
             }
-            Error::UnsafeAbout(place) => {
+            Error::UnsafeAbout(index) => {
                 write!(
                     formatter,
-                    "point {place} of those asked about isn't in the safe range"
+                    "point {index} of those asked about isn't in the safe range"
                 )
             }
-            Error::BadOffsets(Some(place)) => {
-                write!(formatter, "offset {place} doesn't divide the points")
-            }
-            Error::BadOffsets(None) => formatter.write_str("there is no offset"),
-            Error::BadShapeOffsets(Some(place)) => {
+            Error::BadOffsets(Some(index)) => {
                 write!(
                     formatter,
-                    "offset {place} of shapes doesn't divide the contours"
+                    "offset {index} is below the one before it, out of range, or can't be made"
+                )
+            }
+            Error::BadOffsets(None) => formatter.write_str("there is no offset"),
+            Error::BadShapeOffsets(Some(index)) => {
+                write!(
+                    formatter,
+                    "offset {index} of shapes is below the one before it, or out of range"
                 )
             }
             Error::BadShapeOffsets(None) => formatter.write_str("there is no offset of shapes"),
@@ -59,10 +62,10 @@ impl fmt::Display for Error {
 }
 
 impl Error {
-    /// The same error of a list in which so many points stand before.
+    /// Returns the same error for a list with `count` points before these.
     pub(crate) fn behind(self, count: usize) -> Self {
         match self {
-            Error::UnsafePoint(place) => Error::UnsafePoint(count + place),
+            Error::UnsafePoint(index) => Error::UnsafePoint(count + index),
             other => other,
         }
     }
@@ -70,7 +73,7 @@ impl Error {
 
 impl core::error::Error for Error {}
 
-/// What the form of a call returns that panics with the error's text.
+/// Returns the answer, or panics with the error's text.
 #[track_caller]
 pub(crate) fn answered<T>(answer: Result<T, Error>) -> T {
     answer.unwrap_or_else(|error| panic!("{error}"))

@@ -1,22 +1,23 @@
 //! The fill rules of overlays.
 
-/// Which points the contours of a shape fill, by how often they wind about a point together, to the
-/// left.
+/// Which points the contours of a shape fill, by the sum of their winding numbers, which are positive
+/// counterclockwise.
 #[derive(Clone, Copy, Debug, PartialEq, Eq, Hash)]
 #[repr(i32)] // the codes of the C library, from 0 on
 pub enum FillRule {
-    /// Those about which they wind an odd number of times.
+    /// Those with an odd winding number.
     EvenOdd,
-    /// Those about which they wind a number of times other than zero.
+    /// Those with a winding number other than zero.
     NonZero,
-    /// Those about which they wind more than zero times.
+    /// Those with a winding number above zero.
     Positive,
-    /// Those about which they wind fewer than zero times.
+    /// Those with a winding number below zero.
     Negative,
 }
 
 impl FillRule {
-    /// Whether it fills a point about which the contours wind so often.
+    /// Returns whether the rule fills a point about which the contours have this winding number.
+    #[must_use]
     pub fn fills(self, winding: isize) -> bool {
         match self {
             FillRule::EvenOdd => winding % 2 != 0,

@@ -15,12 +15,12 @@
 //! assert_eq!(left.offsets(), [0, 3, 3]);
 //! ```
 //!
-//! The second contour collapses, and keeps its place as an empty one.
+//! The second contour [collapses](crate::int::simple), and is left empty at its index.
 //!
 //! # On several processors
 //!
 //! Every type here is `Sync`, and contours are cleaned one by one. So a batch is divided by
-//! [`Contours::chunks`], which copies nothing, and the answers are joined by
+//! [`Contours::chunks`], which copies nothing, and the results are joined by
 //! [`OwnedContours::extend`]. With threads of std:
 //!
 //! ```
@@ -48,6 +48,7 @@
 //! which keeps their order, and join what is left.
 
 pub mod buffer;
+mod contacts;
 mod contours;
 mod measures;
 pub mod offsets;

@@ -14,11 +14,12 @@
 
 pub mod area;
 pub mod canonical;
+pub mod contacts;
 pub mod count;
 pub mod despike;
 mod number;
 pub mod path;
-#[allow(unsafe_code)]
+#[allow(unsafe_code, reason = "it reads points of a caller's type in place")]
 mod point;
 pub mod safe_range;
 pub mod shape;

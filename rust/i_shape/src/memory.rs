@@ -3,7 +3,7 @@
 use crate::Error;
 use alloc::vec::Vec;
 
-/// An empty vector with room for so many items.
+/// Returns an empty vector with room for at least `count` items.
 pub(crate) fn try_with_capacity<T>(count: usize) -> Result<Vec<T>, Error> {
     let mut items = Vec::new();
     items
@@ -12,26 +12,26 @@ pub(crate) fn try_with_capacity<T>(count: usize) -> Result<Vec<T>, Error> {
     Ok(items)
 }
 
-/// Makes room for so many more items, and perhaps for further ones.
+/// Makes room for at least `count` more items.
 pub(crate) fn try_reserve<T>(items: &mut Vec<T>, count: usize) -> Result<(), Error> {
     items.try_reserve(count).map_err(|_| Error::NoMemory)
 }
 
-/// The items of a slice in a vector of its length.
+/// Returns the items of a slice in a vector.
 pub(crate) fn copied<T: Copy>(items: &[T]) -> Result<Vec<T>, Error> {
     let mut copy = try_with_capacity(items.len())?;
     copy.extend_from_slice(items);
     Ok(copy)
 }
 
-/// So many copies of an item.
+/// Returns `count` copies of an item.
 pub(crate) fn try_filled<T: Copy>(item: T, count: usize) -> Result<Vec<T>, Error> {
     let mut items = try_with_capacity(count)?;
     items.resize(count, item);
     Ok(items)
 }
 
-/// What is made of each item, in order.
+/// Returns what is made of each item, in order.
 pub(crate) fn made_of_each<T, U>(
     items: impl ExactSizeIterator<Item = T>,
     make: impl Fn(T) -> Result<U, Error>,

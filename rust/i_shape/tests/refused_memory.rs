@@ -1,5 +1,6 @@
 //! Each growth of memory that a call asks for is refused in turn: the call returns `Error::NoMemory`.
 //! Where none is refused it succeeds.
+#![allow(unsafe_code, reason = "an allocator is unsafe")]
 
 #[allow(dead_code)]
 #[path = "calls/shared.rs"]
@@ -10,6 +11,7 @@ use i_shape::FillRule;
 use i_shape::flat::{Contours, OwnedContours, OwnedShapes, Shapes, offsets};
 use i_shape::int::IntPoint;
 use i_shape::int::canonical::{CanonicalShape, CanonicalShapes};
+use i_shape::int::contacts::{Contact, ContourContacts, ShapeValidity, Validity};
 use i_shape::int::despike::{DeSpike, DeSpikeContour, DeSpikeShape, DeSpikeShapes};
 use i_shape::int::path::ContourExtension;
 use i_shape::int::simple::{ContourSimplifier, SimpleContour, SimpleShape, SimpleShapes, Simplify};
@@ -135,6 +137,8 @@ fn contours<I: Number>() {
     assert_eq!(growths(|| spiked.try_winding_number(about[0])), 0);
     // nor does one that could do with some
     assert_eq!(growths(|| spiked.try_is_on_boundary(about[0])), 0);
+    assert_eq!(growths(|| spiked.try_first_contact()), 0);
+    assert_eq!(growths(|| clean.try_is_simple_polygon()), 0);
 }
 
 fn shapes_and_lists<I: Number>() {
@@ -149,6 +153,9 @@ fn shapes_and_lists<I: Number>() {
     assert!(growths(|| given[0].try_canonical_unoriented()) > 0);
     let about = [point([1, 1])];
     assert_eq!(growths(|| given[0].try_winding_numbers(&about)), 3);
+    // of a copy of the points, and of one of the offsets
+    assert_eq!(growths(|| given[1].try_validity()), 2);
+    assert_eq!(growths(|| given[1].try_is_valid()), 2);
     assert_eq!(growths(|| given[0].try_winding_number(about[0])), 0);
     assert_eq!(growths(|| given.try_is_simple()), 0);
     assert_eq!(growths(|| given.try_has_no_spikes()), 0);
@@ -170,6 +177,34 @@ fn in_place_changes_nothing() {
 }
 
 #[test]
+fn contacts_are_the_same_without_memory() {
+    let clean = shared::walk_round::<i32>(50);
+    let mut touching = clean.clone();
+    touching[198] = point([0, 50]);
+    let rings = clean.repeat(100);
+    let ends = offsets::from_lengths([200; 100]);
+    let polygon = Shapes::new(&rings, &ends, &[0, 100]);
+    let contact = |first, second| Some(Contact { first, second });
+    for granted in 0..9 {
+        GRANTED.set(granted);
+        let found = (clean.first_contact(), touching.first_contact());
+        let of_rings = Contours::new(&rings, &ends).first_contact();
+        GRANTED.set(granted + 1);
+        let fault = polygon.validity();
+        GRANTED.set(usize::MAX);
+        assert_eq!(
+            fault,
+            [Validity::Contact(Contact {
+                first: 0,
+                second: 200
+            })]
+        );
+        assert_eq!(found, (None, contact(149, 197)));
+        assert_eq!(of_rings, contact(0, 200));
+    }
+}
+
+#[test]
 fn other_forms_panic_with_the_text() {
     let given = contour::<i32>(&STRAIGHT);
     let panics = |call: &dyn Fn()| {
@@ -186,6 +221,12 @@ fn other_forms_panic_with_the_text() {
     assert!(panics(&|| drop(
         Shapes::new(&given, &[0, 5], &[0, 1]).spikes_removed()
     )));
+    assert!(panics(&|| {
+        let _ = Contours::new(&given, &[1, 5]).first_contact();
+    }));
+    assert!(panics(&|| drop(
+        Shapes::new(&given, &[0, 5], &[0, 1]).first_contacts()
+    )));
 }
 
 fn batches<I: Number>() {
@@ -200,6 +241,8 @@ fn batches<I: Number>() {
     assert!(growths(|| all.try_canonical_unoriented()) > 2);
     let behind = Contours::new(flat.points(), &flat.offsets()[1..]);
     assert!(growths(|| behind.try_simplified()) > 3);
+    assert_eq!(growths(|| all.try_first_contact()), 0);
+    assert_eq!(growths(|| behind.try_first_contact()), 1);
     let about = [point([1, 1]); 3];
     assert_eq!(growths(|| all.try_are_simple()), 1);
     assert_eq!(growths(|| all.try_have_no_spikes()), 1);
@@ -215,6 +258,9 @@ fn batches<I: Number>() {
     let polygons = Shapes::new(flat.points(), flat.offsets(), &[1, 3]);
     assert!(growths(|| polygons.try_simplified()) > 3);
     assert!(growths(|| polygons.try_canonical_unoriented()) > 3);
+    // the answer, and the offsets of each polygon behind the first point
+    assert_eq!(growths(|| polygons.try_first_contacts()), 2);
+    assert_eq!(growths(|| polygons.try_validity()), 2);
     let owned = polygons.simplified();
     assert_eq!(growths(|| owned.try_to_shapes()), 4);
 

@@ -1,5 +1,10 @@
 //! What the tests use of Rattle's std, and neither Rust's nor the shim has.
 
+#[path = "../../i_shape_tool/src/host.rs"]
+mod of_program;
+
+pub use of_program::FallibleRead;
+
 use crate::erased::fallible::alloc::{AllocError, AllocFailed, Global};
 use crate::erased::fallible::{String, Vec};
 use crate::growths;

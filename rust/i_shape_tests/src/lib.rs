@@ -1,5 +1,5 @@
 //! The tests of `crates/i_shape_tests`, and of `crates/callers` through them, over erased Rust; those of `crates/refusals`,
-//! with each growth of memory refused in turn; and one over points of no size.
+//! with each growth of memory refused in turn; those of reading the program's input; and one over points of no size.
 #![cfg(test)]
 #![deny(unsafe_code)]
 
@@ -7,5 +7,6 @@
 mod host;
 mod erased;
 mod growths;
+mod reading;
 mod refusals;
 mod too_many_points;

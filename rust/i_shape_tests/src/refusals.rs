@@ -1,7 +1,8 @@
 //! Refuses the growths of the calls in `crates/refusals` one by one, as `.ci/refusals.py` does where the kit has built them.
 //!
 //! Each test of that crate runs in a process of its own with its growth of number N refused, for N = 1, 2, .. up to the first
-//! run in which none is. A test prints `NAME begins` before a call, and behind it `NAME done` or `NAME refused`.
+//! run in which none is. A test prints `NAME begins` before a call, and behind it `NAME done` or `NAME refused`. A call that
+//! does without memory prints `NAME answered` either way, and counts as refused where a growth was refused in it.
 
 use std::collections::{BTreeMap, BTreeSet};
 use std::env;
@@ -53,6 +54,14 @@ impl<'a> Run<'a> {
             } else if let Some(name) = line.strip_suffix(" refused") {
                 run.end(name, name == call && is_within);
                 run.refused.push(name);
+            } else if let Some(name) = line.strip_suffix(" answered") {
+                run.end(name, name == call);
+                let ends = if is_within {
+                    &mut run.refused
+                } else {
+                    &mut run.done
+                };
+                ends.push(name);
             }
         }
         run

@@ -2,6 +2,7 @@
 #![deny(unsafe_code)]
 
 mod erased;
+mod host;
 mod streams;
 
 use erased::fallible::String;

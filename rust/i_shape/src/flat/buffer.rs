@@ -41,7 +41,8 @@ impl<I> Default for FlatContoursBuffer<I> {
 }
 
 impl<I: IntNumber> FlatContoursBuffer<I> {
-    /// No contour, with room for so many points.
+    /// Returns a buffer without a contour, with room for at least `capacity` points.
+    #[must_use]
     pub fn with_capacity(capacity: usize) -> Self {
         FlatContoursBuffer {
             points: Vec::with_capacity(capacity),
@@ -49,42 +50,46 @@ impl<I: IntNumber> FlatContoursBuffer<I> {
         }
     }
 
-    /// Whether there is no point.
+    /// Returns whether there is no point.
+    #[must_use]
     pub fn is_empty(&self) -> bool {
         self.points.is_empty()
     }
 
-    /// Whether there is one range.
+    /// Returns whether there is one range.
+    #[must_use]
     pub fn is_single_contour(&self) -> bool {
         self.ranges.len() == 1
     }
 
-    /// The points of the first range, or all points where there is no range.
+    /// Returns the points of the first range, or all points if there is no range.
     ///
     /// # Panics
     ///
-    /// Where the range runs backwards or doesn't lie within the points.
+    /// If the range runs backwards or doesn't lie within the points.
+    #[must_use]
     pub fn as_first_contour(&self) -> &[IntPoint<I>] {
         &self.points[self.first_range()]
     }
 
-    /// The points of the first range, or all points where there is no range, to be written.
+    /// Returns the points of the first range, or all points if there is no range, to be written.
     ///
     /// # Panics
     ///
-    /// Where the range runs backwards or doesn't lie within the points.
+    /// If the range runs backwards or doesn't lie within the points.
+    #[must_use]
     pub fn as_first_contour_mut(&mut self) -> &mut [IntPoint<I>] {
         let range = self.first_range();
         &mut self.points[range]
     }
 
-    /// Holds the contour, and nothing else.
+    /// Replaces what the buffer holds by the contour.
     pub fn set_with_contour(&mut self, contour: &[IntPoint<I>]) {
         self.clear_and_reserve(contour.len(), 1);
         self.add_contour(contour);
     }
 
-    /// Holds the contours of the shape, and nothing else.
+    /// Replaces what the buffer holds by the contours of the shape.
     pub fn set_with_shape(&mut self, shape: &[IntContour<I>]) {
         self.clear_and_reserve(shape.points_count(), shape.len());
         for contour in shape {
@@ -92,7 +97,7 @@ impl<I: IntNumber> FlatContoursBuffer<I> {
         }
     }
 
-    /// Holds the contours of the shapes, and nothing else.
+    /// Replaces what the buffer holds by the contours of the shapes.
     pub fn set_with_shapes(&mut self, shapes: &[IntShape<I>]) {
         self.clear_and_reserve(shapes.points_count(), shapes.iter().map(Vec::len).sum());
         for contour in shapes.iter().flatten() {
@@ -100,7 +105,7 @@ impl<I: IntNumber> FlatContoursBuffer<I> {
         }
     }
 
-    /// Holds nothing, with room for so many points and contours.
+    /// Removes all contours, and makes room for at least `points` points and `contours` contours.
     pub fn clear_and_reserve(&mut self, points: usize, contours: usize) {
         clear_and_reserve(&mut self.points, points);
         clear_and_reserve(&mut self.ranges, contours);
@@ -111,11 +116,12 @@ impl<I: IntNumber> FlatContoursBuffer<I> {
         self.ranges.push(appended(&mut self.points, contour));
     }
 
-    /// A copy of each contour.
+    /// Returns a copy of each contour.
     ///
     /// # Panics
     ///
-    /// Where a range runs backwards or doesn't lie within the points.
+    /// If a range runs backwards or doesn't lie within the points.
+    #[must_use]
     pub fn to_contours(&self) -> Vec<IntContour<I>> {
         self.ranges
             .iter()
@@ -160,7 +166,9 @@ impl<I> Default for FlatShapesBuffer<I> {
 }
 
 impl<I: IntNumber> FlatShapesBuffer<I> {
-    /// No shape, with room for so many points, contours and shapes.
+    /// Returns a buffer without a shape, with room for at least `points` points, `contours` contours
+    /// and `shapes` shapes.
+    #[must_use]
     pub fn with_capacity(points: usize, contours: usize, shapes: usize) -> Self {
         FlatShapesBuffer {
             points: Vec::with_capacity(points),
@@ -169,24 +177,25 @@ impl<I: IntNumber> FlatShapesBuffer<I> {
         }
     }
 
-    /// Whether there is no point.
+    /// Returns whether there is no point.
+    #[must_use]
     pub fn is_empty(&self) -> bool {
         self.points.is_empty()
     }
 
-    /// Holds a shape of the contour, and nothing else.
+    /// Replaces what the buffer holds by a shape of the contour.
     pub fn set_with_contour(&mut self, contour: &[IntPoint<I>]) {
         self.clear_and_reserve(contour.len(), 1, 1);
         self.append(&[contour]);
     }
 
-    /// Holds the shape, and nothing else.
+    /// Replaces what the buffer holds by the shape.
     pub fn set_with_shape(&mut self, shape: &[IntContour<I>]) {
         self.clear_and_reserve(shape.points_count(), shape.len(), 1);
         self.add_shape(shape);
     }
 
-    /// Holds the shapes, and nothing else.
+    /// Replaces what the buffer holds by the shapes.
     pub fn set_with_shapes(&mut self, shapes: &[IntShape<I>]) {
         let contours = shapes.iter().map(Vec::len).sum();
         self.clear_and_reserve(shapes.points_count(), contours, shapes.len());
@@ -195,7 +204,8 @@ impl<I: IntNumber> FlatShapesBuffer<I> {
         }
     }
 
-    /// Holds nothing, with room for so many points, contours and shapes.
+    /// Removes all shapes, and makes room for at least `points` points, `contours` contours and
+    /// `shapes` shapes.
     pub fn clear_and_reserve(&mut self, points: usize, contours: usize, shapes: usize) {
         clear_and_reserve(&mut self.points, points);
         clear_and_reserve(&mut self.contour_ranges, contours);
@@ -207,12 +217,13 @@ impl<I: IntNumber> FlatShapesBuffer<I> {
         self.append(shape);
     }
 
-    /// A copy of each shape.
+    /// Returns a copy of each shape.
     ///
     /// # Panics
     ///
-    /// Where the range of a shape, or of one of its contours, runs backwards or doesn't lie within
+    /// If the range of a shape, or of one of its contours, runs backwards or doesn't lie within
     /// the contours, or the points.
+    #[must_use]
     pub fn to_shapes(&self) -> Vec<IntShape<I>> {
         let contour = |range: &Range<usize>| self.points[range.clone()].to_vec();
         self.shape_ranges
@@ -247,14 +258,14 @@ impl<I: IntNumber> From<OwnedShapes<I>> for FlatShapesBuffer<I> {
     }
 }
 
-/// Appends a contour to the points, and answers the range where it lies.
+/// Appends a contour to the points, and returns its range.
 fn appended<I: Copy>(points: &mut Vec<IntPoint<I>>, contour: &[IntPoint<I>]) -> Range<usize> {
     let start = points.len();
     points.extend_from_slice(contour);
     start..points.len()
 }
 
-/// Takes all items out, and makes room for so many.
+/// Removes all items, and makes room for at least `count`.
 fn clear_and_reserve<T>(items: &mut Vec<T>, count: usize) {
     items.clear();
     items.reserve(count);

@@ -28,17 +28,19 @@ impl<I> Clone for Contours<'_, I> {
 
 impl<I> Copy for Contours<'_, I> {}
 
-/// The methods of a cleaner: it, their names, and what it leaves of a contour.
+/// The methods of a cleaner: it, their names, that of the C library's call, and what it leaves of a
+/// contour.
 macro_rules! cleaners {
     ($(
         $cleaner:ident: $try_cleaned:ident, $cleaned:ident, $try_into:ident, $into:ident,
-        $leaves:literal;
+        $alias:literal, $leaves:literal;
     )*) => {
         twins! {
             $(
-                #[doc = concat!("Each contour ", $leaves, ".")]
-                /// A contour that collapses is empty, at its place.
-                $cleaned;
+                #[doc = concat!("Returns each contour ", $leaves, ".")]
+                /// A contour that [collapses](crate::int::simple) is left empty, at its index.
+                #[doc(alias = $alias)]
+                $cleaned, must_use;
                 /// Returns [`Error::UnsafePoint`] if a point of a contour isn't safe,
                 /// [`Error::NoMemory`] if an allocation fails.
                 pub fn $try_cleaned(self) -> Result<OwnedContours<I>, Error> {
@@ -47,15 +49,14 @@ macro_rules! cleaners {
 
                 #[doc = concat!("Writes each contour ", $leaves, ",")]
                 /// to the front of `out_points`, end to end, and the offsets from 0 on to the front
-                /// of `out_offsets`. Returns how many points these are.
+                /// of `out_offsets`. Returns the number of these points.
                 $into;
-                /// It takes no memory if each contour is clean or has fewer than three points.
-                ///
                 /// Returns [`Error::NoRoom`] if `out_points` is shorter than
                 /// [`points`](Contours::points) or `out_offsets` than
                 /// [`offsets`](Contours::offsets), [`Error::UnsafePoint`] if a point of a contour
                 /// isn't safe, [`Error::NoMemory`] if an allocation fails. After an error nothing
-                /// is written.
+                /// is written. It takes no memory if each contour is clean or has fewer than three
+                /// points.
                 pub fn $try_into(
                     self,
                     out_points: &mut [IntPoint<I>],
@@ -71,9 +72,9 @@ macro_rules! cleaners {
 
 impl<'a, I: IntNumber> Contours<'a, I> {
     twins! {
-        /// The contours that the offsets divide the points into. Points outside the offsets aren't
-        /// read.
-        new;
+        /// Returns the contours that the offsets divide the points into. Points outside the offsets
+        /// aren't read.
+        new, must_use;
         /// Returns [`Error::BadOffsets`] if the offsets aren't [fit](super::offsets::are_fit) for
         /// the points.
         pub fn try_new(points: &'a [IntPoint<I>], offsets: &'a [usize]) -> Result<Self, Error> {
@@ -83,42 +84,48 @@ impl<'a, I: IntNumber> Contours<'a, I> {
         }
     }
 
-    /// The points up to the last offset.
+    /// Returns the points up to the last offset.
+    #[must_use]
     pub fn points(self) -> &'a [IntPoint<I>] {
         self.points
     }
 
-    /// The offsets: one more than there are contours.
+    /// Returns the offsets: one more than there are contours.
+    #[must_use]
     pub fn offsets(self) -> &'a [usize] {
         self.offsets
     }
 
-    /// How many contours there are.
+    /// Returns the number of contours.
+    #[must_use]
     pub fn len(self) -> usize {
         self.offsets.len() - 1
     }
 
-    /// Whether there is no contour.
+    /// Returns whether there is no contour.
+    #[must_use]
     pub fn is_empty(self) -> bool {
         self.len() == 0
     }
 
-    /// The contour at a place, `None` where there is none.
-    pub fn get(self, place: usize) -> Option<&'a [IntPoint<I>]> {
-        let ends = self.offsets.get(place..)?.get(..2)?;
+    /// Returns the contour at an index, `None` if there is none.
+    #[must_use]
+    pub fn get(self, index: usize) -> Option<&'a [IntPoint<I>]> {
+        let ends = self.offsets.get(index..)?.get(..2)?;
         Some(&self.points[ends[0]..ends[1]])
     }
 
-    /// The contours, in order.
+    /// Returns an iterator over the contours, in order.
     pub fn iter(self) -> impl ExactSizeIterator<Item = &'a [IntPoint<I>]> {
         ranges(self.offsets).map(move |range| &self.points[range])
     }
 
-    /// The contours in parts of `length`, the last of them of what is left. Nothing is copied.
+    /// Returns an iterator over parts of `length` contours; the last part may have fewer. Nothing is
+    /// copied.
     ///
     /// # Panics
     ///
-    /// Where `length` is 0.
+    /// If `length` is 0.
     pub fn chunks(self, length: usize) -> impl Iterator<Item = Contours<'a, I>> {
         let count = self.len();
         (0..count).step_by(length).map(move |first| {
@@ -130,44 +137,46 @@ impl<'a, I: IntNumber> Contours<'a, I> {
         })
     }
 
-    /// Whether each point of a contour is safe.
+    /// Returns whether each point of a contour is safe.
+    #[must_use]
     pub fn is_in_safe_range(self) -> bool {
         are_safe(&self.points[self.offsets[0]..])
     }
 
     cleaners! {
         ContourSimplifier: try_simplified, simplified, try_simplify_into, simplify_into,
-            "without zero turns";
+            "simplify_contours", "without zero turns";
         ContourDeSpiker: try_despiked, despiked, try_despike_into, despike_into,
-            "without the points at which it turns back or stands still";
+            "despike_contours",
+            "without the points at which it turns back or repeats a point";
         Canonicalizer: try_canonical, canonical, try_canonical_into, canonical_into,
+            "canonical_contours",
             "without zero turns, from the start at which it is least, by x and then y";
         UnorientedCanonicalizer: try_canonical_unoriented, canonical_unoriented,
             try_canonical_unoriented_into, canonical_unoriented_into,
+            "canonical_unoriented_contours",
             "in canonical form without regard to direction, the lesser of the forms of both ways";
     }
 
     twins! {
-        /// How often the contours together wind about each of the points: what a fill rule asks of
-        /// the contours of a shape.
-        winding_numbers;
-        /// It takes more memory where that saves time, and does without it if the allocation fails.
-        ///
+        /// Returns the sum of the contours' winding numbers about each of the points. Of the contours
+        /// of a shape it decides what a fill rule fills.
+        winding_numbers, must_use;
         /// Returns [`Error::UnsafeAbout`] if one of `about` isn't safe, [`Error::UnsafePoint`] if a
-        /// point of a contour isn't, [`Error::NoMemory`] if there is none for the result.
+        /// point of a contour isn't, [`Error::NoMemory`] if there is none for the result. It takes
+        /// more memory where that saves time, and does without it if the allocation fails.
         pub fn try_winding_numbers(self, about: &[IntPoint<I>]) -> Result<Vec<isize>, Error> {
             let mut numbers = try_filled(0, about.len())?;
             windings(self.points, self.offsets, about, &mut numbers)?;
             Ok(numbers)
         }
 
-        /// Writes how often the contours together wind about each of the points to the front of
+        /// Writes the sum of the contours' winding numbers about each of the points to the front of
         /// `out`.
         winding_numbers_into;
-        /// It takes memory where that saves time, and does without it if the allocation fails.
-        ///
         /// Returns [`Error::NoRoom`] if `out` is shorter than `about`, [`Error::UnsafeAbout`] if
-        /// one of these isn't safe, [`Error::UnsafePoint`] if a point of a contour isn't.
+        /// one of these isn't safe, [`Error::UnsafePoint`] if a point of a contour isn't. It takes
+        /// memory where that saves time, and does without it if the allocation fails.
         pub fn try_winding_numbers_into(
             self,
             about: &[IntPoint<I>],
@@ -176,8 +185,8 @@ impl<'a, I: IntNumber> Contours<'a, I> {
             windings(self.points, self.offsets, about, out)
         }
 
-        /// Which of the points a fill rule fills.
-        contains_points;
+        /// Returns of each of the points whether a fill rule fills it.
+        contains_points, must_use;
         /// Returns the errors of [`try_winding_numbers`](Contours::try_winding_numbers).
         pub fn try_contains_points(
             self,
@@ -189,30 +198,30 @@ impl<'a, I: IntNumber> Contours<'a, I> {
             Ok(are_filled)
         }
 
-        /// Where each of the points lies, by a fill rule: also whether on an edge, for which it
-        /// looks at each edge until it finds one that the point lies on.
-        locate;
+        /// Returns where each of the points lies, by a fill rule: also whether on an edge, for which
+        /// it looks at each edge until it finds one that the point lies on.
+        locate, must_use;
         /// Returns the errors of [`try_winding_numbers`](Contours::try_winding_numbers).
         pub fn try_locate(
             self,
             about: &[IntPoint<I>],
             rule: FillRule,
         ) -> Result<Vec<Location>, Error> {
-            let mut places = try_filled(Location::Outside, about.len())?;
-            tell::<Located, I>(self.points, self.offsets, about, rule, &mut places)?;
-            Ok(places)
+            let mut locations = try_filled(Location::Outside, about.len())?;
+            tell::<Located, I>(self.points, self.offsets, about, rule, &mut locations)?;
+            Ok(locations)
         }
     }
 
-    /// Whether a point lies on an edge.
+    /// Returns whether a point lies on an edge.
     pub(crate) fn try_is_on_boundary(self, point: IntPoint<I>) -> Result<bool, Error> {
-        let mut place = [Location::Outside];
+        let mut location = [Location::Outside];
         let rule = FillRule::EvenOdd;
-        tell::<Located, I>(self.points, self.offsets, &[point], rule, &mut place)?;
-        Ok(place == [Location::OnBoundary])
+        tell::<Located, I>(self.points, self.offsets, &[point], rule, &mut location)?;
+        Ok(location == [Location::OnBoundary])
     }
 
-    /// What a call leaves of the contours. It is given the points from the first offset on.
+    /// Returns what a call leaves of the contours. It is given the points from the first offset on.
     fn try_cleaned(self, call: CleanMany<I>) -> Result<OwnedContours<I>, Error> {
         let points = &self.points[self.offsets[0]..];
         let rebased = try_rebased(self.offsets)?;
@@ -241,7 +250,8 @@ impl<I: IntNumber> Default for OwnedContours<I> {
 }
 
 impl<I: IntNumber> OwnedContours<I> {
-    /// No contour.
+    /// Returns a list without a contour.
+    #[must_use]
     pub fn new() -> Self {
         OwnedContours {
             points: Vec::new(),
@@ -250,8 +260,8 @@ impl<I: IntNumber> OwnedContours<I> {
     }
 
     twins! {
-        /// A copy of the contours, end to end.
-        from_contours;
+        /// Returns a copy of the contours, end to end.
+        from_contours, must_use;
         /// Returns [`Error::NoMemory`] if an allocation fails.
         pub fn try_from_contours[C: AsRef<[IntPoint<I>]>](contours: &[C]) -> Result<Self, Error> {
             let count = try_sum(contours.iter().map(|contour| contour.as_ref().len()))?;
@@ -277,7 +287,8 @@ impl<I: IntNumber> OwnedContours<I> {
         }
     }
 
-    /// The same contours, borrowed.
+    /// Returns the same contours, borrowed.
+    #[must_use]
     pub fn as_contours(&self) -> Contours<'_, I> {
         Contours {
             points: &self.points,
@@ -285,17 +296,20 @@ impl<I: IntNumber> OwnedContours<I> {
         }
     }
 
-    /// The points of all contours.
+    /// Returns the points of all contours.
+    #[must_use]
     pub fn points(&self) -> &[IntPoint<I>] {
         &self.points
     }
 
-    /// The offsets: one more than there are contours.
+    /// Returns the offsets: one more than there are contours.
+    #[must_use]
     pub fn offsets(&self) -> &[usize] {
         &self.offsets
     }
 
-    /// The points and the offsets.
+    /// Returns the points and the offsets.
+    #[must_use]
     pub fn into_parts(self) -> (Vec<IntPoint<I>>, Vec<usize>) {
         (self.points, self.offsets)
     }

@@ -9,9 +9,9 @@ use alloc::vec::Vec;
 
 impl<I: IntNumber> Contours<'_, I> {
     twins! {
-        /// Of each contour, in order, whether it has at least three points, and none of them is a
-        /// zero turn.
-        are_simple;
+        /// Returns of each contour, in order, whether it has at least three points, and none of them
+        /// is a [zero turn](crate::int::simple).
+        are_simple, must_use;
         /// Returns [`Error::UnsafePoint`] if a point of a contour isn't safe, [`Error::NoMemory`]
         /// if there is none for the result.
         pub fn try_are_simple(self) -> Result<Vec<bool>, Error> {
@@ -19,9 +19,9 @@ impl<I: IntNumber> Contours<'_, I> {
             measured(self.points, self.offsets, test, false)
         }
 
-        /// Of each contour, in order, whether at least three points are left without repeated ones,
-        /// and the way over them nowhere turns back.
-        have_no_spikes;
+        /// Returns of each contour, in order, whether it has at least three points and nowhere turns
+        /// back on itself. Consecutive duplicates count once, also across the closing edge.
+        have_no_spikes, must_use;
         /// Returns [`Error::UnsafePoint`] if a point of a contour isn't safe, [`Error::NoMemory`]
         /// if there is none for the result.
         pub fn try_have_no_spikes(self) -> Result<Vec<bool>, Error> {
@@ -29,9 +29,9 @@ impl<I: IntNumber> Contours<'_, I> {
             measured(self.points, self.offsets, test, false)
         }
 
-        /// Of each contour, in order, whether at most two points are left without repeated ones, or
-        /// the way over them nowhere turns back or bends to both sides.
-        are_convex;
+        /// Returns of each contour, in order, whether it is
+        /// [convex](crate::int::path::ContourExtension::is_convex).
+        are_convex, must_use;
         /// Returns [`Error::UnsafePoint`] if a point of a contour isn't safe, [`Error::NoMemory`]
         /// if there is none for the result.
         pub fn try_are_convex(self) -> Result<Vec<bool>, Error> {
@@ -39,15 +39,16 @@ impl<I: IntNumber> Contours<'_, I> {
             measured(self.points, self.offsets, test, false)
         }
 
-        /// Of each contour, in order, whether each of its points is safe.
-        are_in_safe_range;
+        /// Returns of each contour, in order, whether each of its points is safe.
+        are_in_safe_range, must_use;
         /// Returns [`Error::NoMemory`] if there is none for the result.
         pub fn try_are_in_safe_range(self) -> Result<Vec<bool>, Error> {
             measured(self.points, self.offsets, Passes(SafeRange {}), false)
         }
 
-        /// Twice the area of each contour, in order: positive if it runs counterclockwise, 0 if it
-        /// has no point. The points needn't be safe; a sum that doesn't fit the wide type wraps.
+        /// Returns twice the area of each contour, in order: positive if it runs counterclockwise, 0
+        /// if it has no point. The points needn't be safe; a sum that doesn't fit the wide type
+        /// wraps.
         ///
         /// ```
         /// use i_shape::flat::Contours;
@@ -58,7 +59,7 @@ impl<I: IntNumber> Contours<'_, I> {
         /// let contours = Contours::new(&points, &[0, 3, 3, 6]);
         /// assert_eq!(contours.areas_two(), [16, 0, -9]);
         /// ```
-        areas_two;
+        areas_two, must_use;
         /// Returns [`Error::NoMemory`] if there is none for the result.
         pub fn try_areas_two(self) -> Result<Vec<I::Wide>, Error> {
             measured(self.points, self.offsets, DoubleArea {}, I::Wide::ZERO)

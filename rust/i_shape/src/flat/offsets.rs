@@ -8,28 +8,29 @@ use alloc::borrow::Cow;
 use alloc::vec::Vec;
 use core::ops::Range;
 
-/// Whether the offsets divide a list of `count` items: there is one, none is below the one before
-/// it, and the last is at most `count`. The first may be above 0.
+/// Returns whether the offsets divide a list of `count` items: there is one, none is below the one
+/// before it, and the last is at most `count`. The first may be above 0.
+#[must_use]
 pub fn are_fit(offsets: &[usize], count: usize) -> bool {
     try_fit(offsets, count).is_ok()
 }
 
-/// The place of the first offset that doesn't divide a list of `count` items, `None` where there is
-/// no offset.
+/// Tests that the offsets divide a list of `count` items. The error is the index of the first offset
+/// that doesn't, `None` if there is no offset.
 pub(super) fn try_fit(offsets: &[usize], count: usize) -> Result<(), Option<usize>> {
     match first_bad_offset(offsets, count) {
         None if !offsets.is_empty() => Ok(()),
-        place => Err(place),
+        index => Err(index),
     }
 }
 
 twins! {
-    /// The offsets of parts with these lengths, from 0 on.
+    /// Returns the offsets of parts with these lengths, from 0 on.
     ///
     /// ```
     /// assert_eq!(i_shape::flat::offsets::from_lengths([3, 0, 4]), [0, 3, 3, 7]);
     /// ```
-    from_lengths;
+    from_lengths, must_use;
     /// Returns [`Error::BadOffsets`] if the lengths add up to more than a `usize` holds,
     /// [`Error::NoMemory`] if an allocation fails.
     pub fn try_from_lengths(lengths: impl IntoIterator<Item = usize>) -> Result<Vec<usize>, Error> {
@@ -47,9 +48,9 @@ twins! {
         Ok(offsets)
     }
 
-    /// The offsets of the parts that the ranges name, as a [`buffer`](super::buffer) has them.
-    /// Of no range they are `[0]`.
-    from_ranges;
+    /// Returns the offsets of the parts that the ranges name, as a [`buffer`](super::buffer) has
+    /// them. Of no range they are `[0]`.
+    from_ranges, must_use;
     /// Returns [`Error::BadOffsets`] if a range ends before its start or starts elsewhere than
     /// where the one before it ends, [`Error::NoMemory`] if an allocation fails.
     ///
@@ -74,14 +75,14 @@ twins! {
     }
 }
 
-/// The sum of the lengths. [`Error::NoMemory`] where a `usize` doesn't hold it.
+/// Returns the sum of the lengths, [`Error::NoMemory`] if a `usize` doesn't hold it.
 pub(super) fn try_sum(mut lengths: impl Iterator<Item = usize>) -> Result<usize, Error> {
     lengths
         .try_fold(0, usize::checked_add)
         .ok_or(Error::NoMemory)
 }
 
-/// Appends a part to the items, and its end. It takes no memory where there is room for both.
+/// Appends a part to the items, and its end. It takes no memory if there is room for both.
 pub(super) fn try_append_part<T: Copy>(
     items: &mut Vec<T>,
     ends: &mut Vec<usize>,
@@ -94,12 +95,12 @@ pub(super) fn try_append_part<T: Copy>(
     Ok(())
 }
 
-/// The range of each part.
+/// Returns an iterator over the range of each part.
 pub(super) fn ranges(offsets: &[usize]) -> impl ExactSizeIterator<Item = Range<usize>> {
     offsets.windows(2).map(|ends| ends[0]..ends[1])
 }
 
-/// The same offsets from 0 on, for a list that begins at the first of them.
+/// Returns the same offsets from 0 on, for a list that begins at the first of them.
 pub(super) fn try_rebased(offsets: &[usize]) -> Result<Cow<'_, [usize]>, Error> {
     let first = offsets[0];
     if first == 0 {

@@ -2,7 +2,6 @@
 
 use super::contours::Contours;
 use super::offsets::{append, ranges, try_append_part, try_fit, try_rebased, try_sum};
-use crate::Error;
 use crate::calls::{
     Canonicalizer, CleanShapes, ContourSimplifier, Global, SpikeRemover, UnorientedCanonicalizer,
     are_safe, clean_shapes, form_shapes, number_of_many,
@@ -11,6 +10,7 @@ use crate::int::shape::{IntContour, IntShapes};
 use crate::int::{IntNumber, IntPoint};
 use crate::memory::{copied, made_of_each, try_reserve, try_with_capacity};
 use crate::twins::twins;
+use crate::{Error, FillRule, Location};
 use alloc::vec;
 use alloc::vec::Vec;
 
@@ -45,18 +45,20 @@ impl<I> Clone for Shapes<'_, I> {
 
 impl<I> Copy for Shapes<'_, I> {}
 
-/// The methods of a cleaner: the call and the cleaner, their names, and what is left of the polygons.
+/// The methods of a cleaner: the call and the cleaner, their names, that of the C library's call, and
+/// what is left of the polygons.
 macro_rules! cleaners {
     ($(
         $call:ident::<$cleaner:ident>: $try_cleaned:ident, $cleaned:ident, $try_into:ident,
-        $into:ident, $leaves:literal;
+        $into:ident, $alias:literal, $leaves:literal;
     )*) => {
         twins! {
             $(
-                #[doc = concat!("The polygons ", $leaves, ".")]
-                /// Holes that collapse are left out, and so are polygons whose outer contour
-                /// collapses. An empty polygon stays.
-                $cleaned;
+                #[doc = concat!("Returns the polygons ", $leaves, ".")]
+                /// Holes that [collapse](crate::int::simple) are left out, and so are polygons whose
+                /// outer contour collapses. An empty polygon stays.
+                #[doc(alias = $alias)]
+                $cleaned, must_use;
                 /// Returns [`Error::UnsafePoint`] if a point of a polygon isn't safe,
                 /// [`Error::NoMemory`] if an allocation fails.
                 pub fn $try_cleaned(self) -> Result<OwnedShapes<I>, Error> {
@@ -64,8 +66,8 @@ macro_rules! cleaners {
                 }
 
                 #[doc = concat!("Writes the polygons ", $leaves, ",")]
-                /// to the fronts of the three slices, with offsets from 0 on. Returns how many
-                /// polygons these are, n: they end at `out_shapes[n]`, and their contours at
+                /// to the fronts of the three slices, with offsets from 0 on. Returns the number n of
+                /// these polygons: they end at `out_shapes[n]`, and their contours at
                 /// `out_contours[out_shapes[n]]`.
                 $into;
                 /// Returns [`Error::NoRoom`] if `out_points` is shorter than
@@ -88,9 +90,9 @@ macro_rules! cleaners {
 
 impl<'a, I: IntNumber> Shapes<'a, I> {
     twins! {
-        /// The polygons that the offsets `shapes` divide the contours into, which the offsets
+        /// Returns the polygons that the offsets `shapes` divide the contours into, which the offsets
         /// `contours` divide the points into. What lies outside the offsets isn't read.
-        new;
+        new, must_use;
         /// Returns [`Error::BadOffsets`] or [`Error::BadShapeOffsets`] if these aren't
         /// [fit](super::offsets::are_fit).
         pub fn try_new(
@@ -109,50 +111,63 @@ impl<'a, I: IntNumber> Shapes<'a, I> {
         }
     }
 
-    /// The points up to the end of the last polygon.
+    /// Returns the points up to the end of the last polygon.
+    #[must_use]
     pub fn points(self) -> &'a [IntPoint<I>] {
         self.points
     }
 
-    /// The offsets of the contours up to the end of the last polygon.
+    /// Returns the offsets of the contours up to the end of the last polygon.
+    #[must_use]
     pub fn contours(self) -> &'a [usize] {
         self.contours
     }
 
-    /// The offsets of the polygons: one more than there are polygons.
+    /// Returns the offsets of the polygons: one more than there are polygons.
+    #[must_use]
     pub fn shapes(self) -> &'a [usize] {
         self.shapes
     }
 
-    /// How many polygons there are.
+    /// Returns the number of polygons.
+    #[must_use]
     pub fn len(self) -> usize {
         self.shapes.len() - 1
     }
 
-    /// Whether there is no polygon.
+    /// Returns whether there is no polygon.
+    #[must_use]
     pub fn is_empty(self) -> bool {
         self.len() == 0
     }
 
-    /// The contours of the polygon at a place, `None` where there is none.
-    pub fn get(self, place: usize) -> Option<Contours<'a, I>> {
-        let ends = self.shapes.get(place..)?.get(..2)?;
+    /// Returns the contours of the polygon at an index, `None` if there is none.
+    #[must_use]
+    pub fn get(self, index: usize) -> Option<Contours<'a, I>> {
+        let ends = self.shapes.get(index..)?.get(..2)?;
         Some(self.contours_of(ends))
     }
 
-    /// The contours of each polygon, in order.
+    /// Returns an iterator over the contours of each polygon, in order.
     pub fn iter(self) -> impl ExactSizeIterator<Item = Contours<'a, I>> {
         self.shapes
             .windows(2)
             .map(move |ends| self.contours_of(ends))
     }
 
-    /// The polygons in parts of `length`, the last of them of what is left. Nothing is copied.
-    /// Canonical forms of the parts, joined, are no canonical form of the list: that is sorted.
+    /// Returns the contours of all polygons, in order.
+    #[must_use]
+    pub fn as_contours(self) -> Contours<'a, I> {
+        self.contours_of(&[self.shapes[0], self.shapes[self.len()]])
+    }
+
+    /// Returns an iterator over parts of `length` polygons; the last part may have fewer. Nothing is
+    /// copied. Canonical forms of the parts, joined, are no canonical form of the list: that is
+    /// sorted.
     ///
     /// # Panics
     ///
-    /// Where `length` is 0.
+    /// If `length` is 0.
     pub fn chunks(self, length: usize) -> impl Iterator<Item = Shapes<'a, I>> {
         let count = self.len();
         (0..count).step_by(length).map(move |first| {
@@ -166,7 +181,8 @@ impl<'a, I: IntNumber> Shapes<'a, I> {
         })
     }
 
-    /// Whether each point of a polygon is safe.
+    /// Returns whether each point of a polygon is safe.
+    #[must_use]
     pub fn is_in_safe_range(self) -> bool {
         let first = self.contours[self.shapes[0]];
         are_safe(&self.points[first..])
@@ -174,22 +190,59 @@ impl<'a, I: IntNumber> Shapes<'a, I> {
 
     cleaners! {
         clean_shapes::<ContourSimplifier>: try_simplified, simplified, try_simplify_into,
-            simplify_into, "without zero turns";
+            simplify_into, "simplify_shapes", "without zero turns";
         clean_shapes::<SpikeRemover>: try_spikes_removed, spikes_removed, try_remove_spikes_into,
-            remove_spikes_into,
-            "without spikes: a contour that has none stays as it is, also with points that repeat, and of the others nothing that turns back or stands still is left";
+            remove_spikes_into, "despike_shapes",
+            "without spikes: a contour that has none stays as it is, also with points that repeat, \
+             and of the others nothing that turns back or repeats a point is left";
         form_shapes::<Canonicalizer>: try_canonical, canonical, try_canonical_into, canonical_into,
+            "canonical_shapes",
             "in canonical form: that of each contour, the holes of each polygon sorted, and then the polygons";
         form_shapes::<UnorientedCanonicalizer>: try_canonical_unoriented, canonical_unoriented,
-            try_canonical_unoriented_into, canonical_unoriented_into,
+            try_canonical_unoriented_into, canonical_unoriented_into, "canonical_unoriented_shapes",
             "in canonical form without regard to direction: by the lesser of the forms of both ways";
     }
 
     twins! {
-        /// The polygons without spikes.
+        /// Returns the sum of the winding numbers of the contours of all polygons about each of the
+        /// points.
+        winding_numbers, must_use;
+        /// Returns the errors of [`Contours::try_winding_numbers`].
+        pub fn try_winding_numbers(self, about: &[IntPoint<I>]) -> Result<Vec<isize>, Error> {
+            self.as_contours().try_winding_numbers(about)
+        }
+
+        /// Returns of each of the points whether a fill rule fills it, by the contours of all
+        /// polygons together.
+        contains_points, must_use;
+        /// Returns the errors of [`Contours::try_winding_numbers`].
+        pub fn try_contains_points(
+            self,
+            about: &[IntPoint<I>],
+            rule: FillRule,
+        ) -> Result<Vec<bool>, Error> {
+            self.as_contours().try_contains_points(about, rule)
+        }
+
+        /// Returns where each of the points lies, by a fill rule and the contours of all polygons
+        /// together.
+        locate, must_use;
+        /// Returns the errors of [`Contours::try_winding_numbers`].
+        pub fn try_locate(
+            self,
+            about: &[IntPoint<I>],
+            rule: FillRule,
+        ) -> Result<Vec<Location>, Error> {
+            self.as_contours().try_locate(about, rule)
+        }
+    }
+
+    twins! {
+        /// Returns the polygons without spikes.
         #[allow(deprecated)]
         #[deprecated(note = "renamed to `spikes_removed` and `try_spikes_removed`")]
-        despiked;
+        despiked, must_use;
+        /// Returns the errors of [`try_spikes_removed`](Shapes::try_spikes_removed).
         pub fn try_despiked(self) -> Result<OwnedShapes<I>, Error> {
             self.try_spikes_removed()
         }
@@ -198,6 +251,7 @@ impl<'a, I: IntNumber> Shapes<'a, I> {
         #[allow(deprecated)]
         #[deprecated(note = "renamed to `remove_spikes_into` and `try_remove_spikes_into`")]
         despike_into;
+        /// Returns the errors of [`try_remove_spikes_into`](Shapes::try_remove_spikes_into).
         pub fn try_despike_into(
             self,
             out_points: &mut [IntPoint<I>],
@@ -208,7 +262,7 @@ impl<'a, I: IntNumber> Shapes<'a, I> {
         }
     }
 
-    /// The contours between two offsets of polygons.
+    /// Returns the contours between two offsets of polygons.
     fn contours_of(self, ends: &[usize]) -> Contours<'a, I> {
         let offsets = &self.contours[ends[0]..=ends[1]];
         Contours {
@@ -242,7 +296,7 @@ impl<'a, I: IntNumber> Shapes<'a, I> {
         number_of_many(returned, points, contours)
     }
 
-    /// What a call leaves of the polygons. It is given the points and contours from the first
+    /// Returns what a call leaves of the polygons. It is given the points and contours from the first
     /// polygon on.
     fn try_cleaned(self, call: CleanShapes<I>) -> Result<OwnedShapes<I>, Error> {
         let contours = &self.contours[self.shapes[0]..];
@@ -283,7 +337,8 @@ impl<I: IntNumber> Default for OwnedShapes<I> {
 }
 
 impl<I: IntNumber> OwnedShapes<I> {
-    /// No polygon.
+    /// Returns a list without a polygon.
+    #[must_use]
     pub fn new() -> Self {
         OwnedShapes {
             points: Vec::new(),
@@ -293,8 +348,8 @@ impl<I: IntNumber> OwnedShapes<I> {
     }
 
     twins! {
-        /// A copy of the polygons, end to end.
-        from_shapes;
+        /// Returns a copy of the polygons, end to end.
+        from_shapes, must_use;
         /// Returns [`Error::NoMemory`] if an allocation fails.
         pub fn try_from_shapes[S: AsRef<[IntContour<I>]>](shapes: &[S]) -> Result<Self, Error> {
             let contour_count = try_sum(shapes.iter().map(|shape| shape.as_ref().len()))?;
@@ -332,8 +387,8 @@ impl<I: IntNumber> OwnedShapes<I> {
             Ok(())
         }
 
-        /// A copy of the polygons, each contour in a vector of its own.
-        to_shapes;
+        /// Returns a copy of the polygons, each contour in a vector of its own.
+        to_shapes, must_use;
         /// Returns [`Error::NoMemory`] if an allocation fails.
         pub fn try_to_shapes(&self) -> Result<IntShapes<I>, Error> {
             made_of_each(ranges(&self.shapes), |shape| {
@@ -344,7 +399,8 @@ impl<I: IntNumber> OwnedShapes<I> {
         }
     }
 
-    /// The same polygons, borrowed.
+    /// Returns the same polygons, borrowed.
+    #[must_use]
     pub fn as_shapes(&self) -> Shapes<'_, I> {
         Shapes {
             points: &self.points,
@@ -353,22 +409,26 @@ impl<I: IntNumber> OwnedShapes<I> {
         }
     }
 
-    /// The points of all contours.
+    /// Returns the points of all contours.
+    #[must_use]
     pub fn points(&self) -> &[IntPoint<I>] {
         &self.points
     }
 
-    /// The offsets of the contours: one more than there are contours.
+    /// Returns the offsets of the contours: one more than there are contours.
+    #[must_use]
     pub fn contours(&self) -> &[usize] {
         &self.contours
     }
 
-    /// The offsets of the polygons: one more than there are polygons.
+    /// Returns the offsets of the polygons: one more than there are polygons.
+    #[must_use]
     pub fn shapes(&self) -> &[usize] {
         &self.shapes
     }
 
-    /// The points, the offsets of the contours, and those of the polygons.
+    /// Returns the points, the offsets of the contours, and those of the polygons.
+    #[must_use]
     pub fn into_parts(self) -> (Vec<IntPoint<I>>, Vec<usize>, Vec<usize>) {
         (self.points, self.contours, self.shapes)
     }

@@ -24,13 +24,13 @@ use crate::twins::twins;
 /// ```
 pub trait Area<I: IntNumber> {
     twins! {
-        /// Twice the area.
-        area_two;
+        /// Returns twice the area.
+        area_two, must_use;
         /// Returns [`Error::NoPoint`] if a contour has no point.
         fn try_area_two(&self) -> Result<I::Wide, Error>;
 
-        /// The area, a half rounded towards zero.
-        area;
+        /// Returns the area, a half rounded towards zero.
+        area, must_use;
         /// Returns [`Error::NoPoint`] if a contour has no point.
         fn try_area(&self) -> Result<I::Wide, Error> {
             Ok(self.try_area_two()? / I::Wide::TWO)
@@ -63,8 +63,8 @@ impl<I: IntNumber> Area<I> for [IntShape<I>] {
 /// The double area of the points that an iterator has left, by its name of the original crate.
 pub trait UnsafeArea<I: IntNumber>: Iterator<Item = IntPoint<I>> + Sized {
     twins! {
-        /// Twice the signed area, as [`Area::area_two`] returns it of a contour of these points.
-        unsafe_area;
+        /// Returns twice the signed area, as [`Area::area_two`] does for a contour of these points.
+        unsafe_area, must_use;
         /// Returns [`Error::NoPoint`] if no point is left.
         fn try_unsafe_area(self) -> Result<I::Wide, Error> {
             calls::area_two_of(self).ok_or(Error::NoPoint)
@@ -85,15 +85,15 @@ impl<I: IntNumber, T: Iterator<Item = IntPoint<I>>> UnsafeArea<I> for T {}
 /// ```
 pub trait IteratorArea<I: IntNumber>: Iterator<Item = IntPoint<I>> + Sized {
     twins! {
-        /// Twice the signed area.
-        area_two;
+        /// Returns twice the signed area.
+        area_two, must_use;
         /// Returns [`Error::NoPoint`] if no point is left.
         fn try_area_two(self) -> Result<I::Wide, Error> {
             calls::area_two_of(self).ok_or(Error::NoPoint)
         }
 
-        /// The signed area, a half rounded towards zero.
-        area;
+        /// Returns the signed area, a half rounded towards zero.
+        area, must_use;
         /// Returns [`Error::NoPoint`] if no point is left.
         fn try_area(self) -> Result<I::Wide, Error> {
             Ok(self.try_area_two()? / I::Wide::TWO)

@@ -25,19 +25,20 @@ use crate::flat::OwnedShapes;
 use crate::twins::twins;
 
 /// The canonical forms of a shape.
-///
-/// Each call returns [`Error::UnsafePoint`] if a point isn't safe, and [`Error::NoMemory`] if an
-/// allocation fails.
 pub trait CanonicalShape<I: IntNumber> {
     twins! {
-        /// The canonical form: the forms of the outer contour and then of the holes that don't
-        /// collapse, these sorted; `None` if the outer contour collapses. An empty shape is its own
-        /// form.
-        canonical;
+        /// Returns the canonical form: the forms of the outer contour and then of the holes that
+        /// don't [collapse](super::simple), these sorted; `None` if the outer contour collapses. An
+        /// empty shape is its own form.
+        canonical, must_use;
+        /// Returns [`Error::UnsafePoint`] if a point isn't safe, [`Error::NoMemory`] if an allocation
+        /// fails.
         fn try_canonical(&self) -> Result<Option<IntShape<I>>, Error>;
 
-        /// The same by the lesser of the forms of each contour and of the contour reversed.
-        canonical_unoriented;
+        /// Returns the same by the lesser of the forms of each contour and of the contour reversed.
+        canonical_unoriented, must_use;
+        /// Returns [`Error::UnsafePoint`] if a point isn't safe, [`Error::NoMemory`] if an allocation
+        /// fails.
         fn try_canonical_unoriented(&self) -> Result<Option<IntShape<I>>, Error>;
     }
 }
@@ -56,15 +57,19 @@ impl<I: IntNumber> CanonicalShape<I> for [IntContour<I>] {
     }
 }
 
-/// The canonical forms of a list of shapes. Calls return the errors of [`CanonicalShape`].
+/// The canonical forms of a list of shapes.
 pub trait CanonicalShapes<I: IntNumber> {
     twins! {
-        /// The forms of the shapes that have one, sorted.
-        canonical;
+        /// Returns the forms of the shapes that have one, sorted.
+        canonical, must_use;
+        /// Returns [`Error::UnsafePoint`] if a point isn't safe, [`Error::NoMemory`] if an allocation
+        /// fails.
         fn try_canonical(&self) -> Result<IntShapes<I>, Error>;
 
-        /// The same by the lesser of the forms of each contour and of the contour reversed.
-        canonical_unoriented;
+        /// Returns the same by the lesser of the forms of each contour and of the contour reversed.
+        canonical_unoriented, must_use;
+        /// Returns [`Error::UnsafePoint`] if a point isn't safe, [`Error::NoMemory`] if an allocation
+        /// fails.
         fn try_canonical_unoriented(&self) -> Result<IntShapes<I>, Error>;
     }
 }

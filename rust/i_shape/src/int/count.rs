@@ -1,4 +1,4 @@
-//! How many points there are.
+//! Numbers of points.
 
 use super::IntNumber;
 use super::shape::{IntContour, IntShape};
@@ -8,7 +8,8 @@ pub use super::shape::IntShapes;
 
 /// The number of points of a shape or a list.
 pub trait PointsCount {
-    /// How many points all its contours have together.
+    /// Returns the number of points of all its contours together.
+    #[must_use]
     fn points_count(&self) -> usize;
 }
 

@@ -1,5 +1,5 @@
-//! The removal of spikes: of points at which a contour turns back or stands still. Points at which
-//! it goes straight on stay.
+//! The removal of spikes and of repeated points. At the tip of a spike a contour turns back. Points
+//! at which it goes straight on stay.
 
 use super::count::PointsCount;
 use super::shape::{IntContour, IntShape, IntShapes};
@@ -12,27 +12,28 @@ use crate::twins::twins;
 use alloc::vec::Vec;
 
 /// The test and the removal of spikes.
-///
-/// Each call returns [`Error::UnsafePoint`] if a point isn't safe. Those that return a contour, and
-/// those that clean a contour which isn't clean, return [`Error::NoMemory`] if an allocation fails.
 pub trait DeSpikeContour<I: IntNumber> {
     twins! {
-        /// Whether at least three points are left without those that equal the one before them on
-        /// the cycle, and the way over them nowhere turns back.
-        has_no_spikes;
+        /// Returns whether the contour has at least three points and nowhere turns back on itself.
+        /// Consecutive duplicates count once, also across the closing edge.
+        has_no_spikes, must_use;
+        /// Returns [`Error::UnsafePoint`] if a point isn't safe.
         fn try_has_no_spikes(&self) -> Result<bool, Error>;
 
-        /// The contour without the points at which it turns back or stands still, `None` if it
-        /// collapses.
-        despiked_contour;
+        /// Returns the contour without the points at which it turns back or repeats a point, `None`
+        /// if it [collapses](super::simple).
+        despiked_contour, must_use;
+        /// Returns [`Error::UnsafePoint`] if a point isn't safe, [`Error::NoMemory`] if an allocation
+        /// fails.
         fn try_despiked_contour(&self) -> Result<Option<IntContour<I>>, Error>;
 
         /// Writes the contour without spikes, as
         /// [`despiked_contour`](DeSpikeContour::despiked_contour) returns it, to the front of
-        /// `out`. Returns how many points these are, 0 if the contour collapses.
+        /// `out`. Returns the number of these points, 0 if the contour collapses.
         despike_into;
-        /// Returns [`Error::NoRoom`] if `out` is shorter than the contour. A contour with nothing
-        /// to remove or with fewer than three points takes no memory.
+        /// Returns [`Error::NoRoom`] if `out` is shorter than the contour, [`Error::UnsafePoint`] if
+        /// a point isn't safe, [`Error::NoMemory`] if an allocation fails. A contour with nothing to
+        /// remove or with fewer than three points takes no memory.
         fn try_despike_into(&self, out: &mut [IntPoint<I>]) -> Result<usize, Error>;
     }
 }
@@ -51,18 +52,21 @@ impl<I: IntNumber> DeSpikeContour<I> for [IntPoint<I>] {
     }
 }
 
-/// The test and the removal of spikes, of a shape. Calls return the errors of [`DeSpikeContour`];
-/// the test ends at the first contour that fails it, and reads none behind it.
+/// The test and the removal of spikes, of a shape. The test ends at the first contour that fails it,
+/// and reads none after it.
 pub trait DeSpikeShape<I: IntNumber> {
     twins! {
-        /// Whether each contour passes [`DeSpikeContour::has_no_spikes`].
-        has_no_spikes;
+        /// Returns whether each contour passes [`DeSpikeContour::has_no_spikes`].
+        has_no_spikes, must_use;
+        /// Returns [`Error::UnsafePoint`] if a point that the test reads isn't safe.
         fn try_has_no_spikes(&self) -> Result<bool, Error>;
 
-        /// The shape with each contour despiked that has spikes, and without the holes that
-        /// collapse; `None` if its outer contour does. A contour without spikes stays as it is, and
-        /// so does an empty shape.
-        despiked_shape;
+        /// Returns the shape with each contour despiked that has spikes, and without the holes that
+        /// [collapse](super::simple); `None` if its outer contour does. A contour without spikes
+        /// stays as it is, and so does an empty shape.
+        despiked_shape, must_use;
+        /// Returns [`Error::UnsafePoint`] if a point isn't safe, [`Error::NoMemory`] if an allocation
+        /// fails.
         fn try_despiked_shape(&self) -> Result<Option<IntShape<I>>, Error>;
     }
 }
@@ -80,16 +84,20 @@ impl<I: IntNumber> DeSpikeShape<I> for [IntContour<I>] {
     }
 }
 
-/// The test and the removal of spikes, of a list of shapes. Calls return the errors of
-/// [`DeSpikeShape`].
+/// The test and the removal of spikes, of a list of shapes. The test ends at the first contour that
+/// fails it, and reads none after it.
 pub trait DeSpikeShapes<I: IntNumber> {
     twins! {
-        /// Whether each contour of each shape passes [`DeSpikeContour::has_no_spikes`].
-        has_no_spikes;
+        /// Returns whether each contour of each shape passes [`DeSpikeContour::has_no_spikes`].
+        has_no_spikes, must_use;
+        /// Returns [`Error::UnsafePoint`] if a point that the test reads isn't safe.
         fn try_has_no_spikes(&self) -> Result<bool, Error>;
 
-        /// The shapes that are left, in order, each as [`DeSpikeShape::despiked_shape`] returns it.
-        despiked_shapes;
+        /// Returns the shapes that are left, in order, each as [`DeSpikeShape::despiked_shape`]
+        /// returns it.
+        despiked_shapes, must_use;
+        /// Returns [`Error::UnsafePoint`] if a point isn't safe, [`Error::NoMemory`] if an allocation
+        /// fails.
         fn try_despiked_shapes(&self) -> Result<IntShapes<I>, Error>;
     }
 }
@@ -114,11 +122,13 @@ impl<I: IntNumber> DeSpikeShapes<I> for [IntShape<I>] {
 /// The removal of spikes in place, of a contour, a shape or a list of shapes.
 pub trait DeSpike {
     twins! {
-        /// Removes spikes. A contour that collapses, and a shape whose outer contour does, is empty
-        /// afterwards; holes that collapse, and such shapes of a list, are taken out. Returns
-        /// `false` if each contour passes [`DeSpikeContour::has_no_spikes`]: then nothing changes.
+        /// Removes spikes. A contour that [collapses](super::simple), and a shape whose outer contour
+        /// does, is empty afterwards; holes that collapse, and such shapes of a list, are taken out.
+        /// Returns `false` if each contour passes [`DeSpikeContour::has_no_spikes`]: then nothing
+        /// changes.
         remove_spikes;
-        /// Returns the errors of [`DeSpikeContour`], and changes nothing then.
+        /// Returns [`Error::UnsafePoint`] if a point isn't safe, [`Error::NoMemory`] if an allocation
+        /// fails. Then nothing changes.
         fn try_remove_spikes(&mut self) -> Result<bool, Error>;
     }
 }

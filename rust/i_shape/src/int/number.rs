@@ -16,7 +16,12 @@ pub trait Number: Copy {
     fn proved(self) -> Self::Proved;
 }
 
+/// Seals `WideIntNumber`.
+pub trait Sealed {}
+
 /// A coordinate: `i16`, `i32` or `i64`. Its operators are those of the type.
+///
+/// This trait is sealed: no other crate can implement it.
 pub trait IntNumber:
     Number<Double = <Self as IntNumber>::Wide>
     + Ord
@@ -48,13 +53,17 @@ pub trait IntNumber:
     /// The number of bits.
     const BITS: u32;
 
-    /// The same number in the wider type.
+    /// Returns the same number in the wider type.
+    #[must_use]
     fn to_wide(self) -> Self::Wide;
 }
 
 /// The type of a double area: `i32`, `i64` or `i128`. Its operators are those of the type.
+///
+/// This trait is sealed: no other crate can implement it.
 pub trait WideIntNumber:
-    Copy
+    Sealed
+    + Copy
     + Ord
     + Hash
     + Debug
@@ -76,16 +85,20 @@ pub trait WideIntNumber:
     /// The number 2.
     const TWO: Self;
 
-    /// The sum. One that doesn't fit wraps.
+    /// Returns the sum. One that doesn't fit wraps.
+    #[must_use]
     fn wrapping_add(self, other: Self) -> Self;
 
-    /// The difference. One that doesn't fit wraps.
+    /// Returns the difference. One that doesn't fit wraps.
+    #[must_use]
     fn wrapping_sub(self, other: Self) -> Self;
 
-    /// The product. One that doesn't fit wraps.
+    /// Returns the product. One that doesn't fit wraps.
+    #[must_use]
     fn wrapping_mul(self, other: Self) -> Self;
 
-    /// -1, 0 or 1 for a number below, equal to or above 0.
+    /// Returns -1, 0 or 1 for a number below, equal to or above 0.
+    #[must_use]
     fn signum(self) -> Self;
 }
 
@@ -113,6 +126,8 @@ macro_rules! numbers {
                     self.into()
                 }
             }
+
+            impl Sealed for $wide {}
 
             impl WideIntNumber for $wide {
                 const ZERO: $wide = 0;

@@ -1,4 +1,4 @@
-//! Tests of a contour as a whole, and how often it winds about points.
+//! Tests of a contour as a whole, and its winding numbers about points.
 
 use super::area::Area;
 use super::{IntNumber, IntPoint, WideIntNumber};
@@ -13,7 +13,7 @@ pub use super::shape::IntContour as IntPath;
 /// Paths in order.
 pub type IntPaths<I> = Vec<IntPath<I>>;
 
-/// Tests of a contour as a whole, and how often it winds about points.
+/// Tests of a contour as a whole, and its winding numbers about points.
 ///
 /// Calls about many points take memory for their results, the others none.
 ///
@@ -30,54 +30,58 @@ pub type IntPaths<I> = Vec<IntPath<I>>;
 /// ```
 pub trait ContourExtension<I: IntNumber> {
     twins! {
-        /// Whether at most two points are left without those that equal the one before them on the
-        /// cycle, or the way over them nowhere turns back and doesn't bend to both sides.
-        is_convex;
+        /// Returns whether the contour is convex: it has at most two points, or it never turns back
+        /// on itself and doesn't turn left at one point and right at another. Consecutive duplicates
+        /// count once, also across the closing edge. A contour that winds around more than once,
+        /// such as a pentagram, may be convex.
+        is_convex, must_use;
         /// Returns [`Error::UnsafePoint`] if a point isn't safe.
         fn try_is_convex(&self) -> Result<bool, Error>;
 
-        /// Whether twice the area is at most 0.
-        is_clockwise_ordered;
+        /// Returns whether twice the area is at most 0.
+        is_clockwise_ordered, must_use;
         /// Returns [`Error::NoPoint`] if there is no point. The points needn't be safe.
         fn try_is_clockwise_ordered(&self) -> Result<bool, Error>;
 
-        /// Whether an odd number of edges pass the height of `point` strictly to the right of it.
-        contains_point;
+        /// Returns whether `point` is inside by the even-odd rule: an odd number of edges pass its
+        /// height strictly to the right of it.
+        contains_point, must_use;
         /// Returns the errors of [`try_winding_number`](ContourExtension::try_winding_number).
         fn try_contains_point(&self, point: IntPoint<I>) -> Result<bool, Error>;
 
-        /// How often the contour winds about `point`, counterclockwise: how many edges pass its
-        /// height upwards and strictly to the right of it, less those that do so downwards.
-        winding_number;
+        /// Returns the winding number about `point`, counterclockwise positive: the number of edges
+        /// that pass its height upwards and strictly to the right of it, less those that do so
+        /// downwards.
+        winding_number, must_use;
         /// Returns [`Error::UnsafeAbout`] if that point isn't safe, [`Error::UnsafePoint`] if one
         /// of the contour isn't.
         fn try_winding_number(&self, point: IntPoint<I>) -> Result<isize, Error>;
 
-        /// Whether a fill rule fills `point`.
-        contains_by;
+        /// Returns whether a fill rule fills `point`.
+        contains_by, must_use;
         /// Returns the errors of [`try_winding_number`](ContourExtension::try_winding_number).
         fn try_contains_by(&self, point: IntPoint<I>, rule: FillRule) -> Result<bool, Error>;
 
-        /// How often the contour winds about each of the points.
-        winding_numbers;
+        /// Returns the winding number about each of the points.
+        winding_numbers, must_use;
         /// Returns the errors of [`try_winding_number`](ContourExtension::try_winding_number), and
         /// [`Error::NoMemory`] if there is none for the result. It takes more memory where that
         /// saves time, and does without it if the allocation fails.
         fn try_winding_numbers(&self, points: &[IntPoint<I>]) -> Result<Vec<isize>, Error>;
 
-        /// Which of the points a fill rule fills.
-        contains_points;
+        /// Returns of each of the points whether a fill rule fills it.
+        contains_points, must_use;
         /// Returns the errors of [`try_winding_numbers`](ContourExtension::try_winding_numbers).
         fn try_contains_points(&self, points: &[IntPoint<I>], rule: FillRule) -> Result<Vec<bool>, Error>;
 
-        /// Whether `point` lies on an edge, its ends included.
-        is_on_boundary;
+        /// Returns whether `point` lies on an edge, its ends included.
+        is_on_boundary, must_use;
         /// Returns the errors of [`try_winding_number`](ContourExtension::try_winding_number).
         fn try_is_on_boundary(&self, point: IntPoint<I>) -> Result<bool, Error>;
 
-        /// Where each of the points lies, by a fill rule: also whether on an edge, for which it
-        /// looks at each edge until it finds one that the point lies on.
-        locate;
+        /// Returns where each of the points lies, by a fill rule: also whether on an edge, for which
+        /// it looks at each edge until it finds one that the point lies on.
+        locate, must_use;
         /// Returns the errors of [`try_winding_numbers`](ContourExtension::try_winding_numbers).
         fn try_locate(&self, points: &[IntPoint<I>], rule: FillRule) -> Result<Vec<Location>, Error>;
     }

@@ -30,7 +30,8 @@ pub struct IntPoint<I> {
 }
 
 impl<I> IntPoint<I> {
-    /// The point with these coordinates.
+    /// Returns the point with these coordinates.
+    #[must_use]
     pub const fn new(x: I, y: I) -> Self {
         IntPoint { x, y }
     }
@@ -40,13 +41,14 @@ impl<I: IntNumber> IntPoint<I> {
     /// The point whose coordinates are 0.
     pub const ZERO: Self = IntPoint::new(I::ZERO, I::ZERO);
 
-    /// Whether both coordinates lie strictly between -2^(W-2) and 2^(W-2), where W is their number
-    /// of bits.
+    /// Returns whether both coordinates lie strictly between -2^(W-2) and 2^(W-2), where W is their
+    /// number of bits.
+    #[must_use]
     pub fn is_in_safe_range(&self) -> bool {
         self.to_point().is_in_safe_range()
     }
 
-    /// The cross product of two vectors, positive if `other` points to the left of this one. It
+    /// Returns the cross product of two vectors, positive if `other` points to the left of this one. It
     /// always fits.
     ///
     /// ```
@@ -56,11 +58,14 @@ impl<I: IntNumber> IntPoint<I> {
     /// assert_eq!(east.cross_product(up), 15_i32);
     /// assert_eq!(east.dot_product(up), 3);
     /// ```
+    #[must_use]
     pub fn cross_product(self, other: Self) -> I::Wide {
         self.to_point().cross_product(other.to_point())
     }
 
-    /// The dot product of two vectors. It wraps only if all four coordinates are the least number.
+    /// Returns the dot product of two vectors. It wraps only if all four coordinates are the least
+    /// number.
+    #[must_use]
     pub fn dot_product(self, other: Self) -> I::Wide {
         self.to_point().dot_product(other.to_point())
     }
@@ -145,8 +150,8 @@ unsafe impl<I: IntNumber> ContourPoint for [I; 2] {
     type Coordinate = I;
 }
 
-/// Whether points and arrays at a width are laid out as a C struct of two coordinates.
-#[allow(dead_code)] // rustc 1.85 overlooks the assertion below
+/// Returns whether points and arrays at a width are laid out as a C struct of two coordinates.
+#[allow(dead_code, reason = "rustc 1.85 overlooks the assertion below")]
 const fn is_laid_out<I>() -> bool {
     let size = size_of::<I>();
     size_of::<IntPoint<I>>() == 2 * size
@@ -199,6 +204,47 @@ const _: () = assert!(is_laid_out::<i16>() && is_laid_out::<i32>() && is_laid_ou
 /// i_shape::contour_point!(Permitted { x, y }: i32);
 /// ```
 ///
+/// A point of another crate goes into a struct of your own that is `repr(transparent)`, and its
+/// type and its coordinates are named behind the field:
+///
+/// ```
+/// # mod geo_types {
+/// #     #[derive(Clone, Copy, Debug, PartialEq)]
+/// #     pub struct Coord<T> { pub x: T, pub y: T }
+/// # }
+/// use geo_types::Coord;
+/// use i_shape::int::{AsIntPoints, simple::SimpleContour};
+///
+/// #[repr(transparent)]
+/// #[derive(Clone, Copy, Debug, PartialEq)]
+/// struct Own(Coord<i32>);
+///
+/// i_shape::contour_point!(Own { 0: Coord<i32> { x, y } }: i32);
+///
+/// let parcel = [[0, 0], [2, 0], [4, 0], [4, 4]].map(|[x, y]| Own(Coord { x, y }));
+/// assert!(!parcel.as_int_points().is_simple());
+/// ```
+///
+/// ```compile_fail
+/// #[repr(C)]
+/// #[derive(Clone, Copy)]
+/// struct Swapped { y: i32, x: i32 }
+/// #[repr(transparent)]
+/// #[derive(Clone, Copy)]
+/// struct Own(Swapped);
+/// i_shape::contour_point!(Own { 0: Swapped { x, y } }: i32);
+/// ```
+///
+/// ```compile_fail
+/// #[repr(C)]
+/// #[derive(Clone, Copy)]
+/// struct Labelled { x: i32, y: i32, label: () }
+/// #[repr(transparent)]
+/// #[derive(Clone, Copy)]
+/// struct Own(Labelled);
+/// i_shape::contour_point!(Own { 0: Labelled { x, y } }: i32);
+/// ```
+///
 /// So are coordinates that aren't aligned, in another order, of another type, and references:
 ///
 /// ```compile_fail
@@ -233,6 +279,39 @@ const _: () = assert!(is_laid_out::<i16>() && is_laid_out::<i32>() && is_laid_ou
 /// `#![forbid(unsafe_code)]` too.
 #[macro_export]
 macro_rules! contour_point {
+    ($point:ty { $field:tt: $whole:ty { $x:tt, $y:tt } }: $number:ty) => {
+        const _: () = {
+            use ::core::mem::{align_of, offset_of, size_of};
+            const SIZE: usize = size_of::<$number>();
+            assert!(
+                size_of::<$point>() == 2 * SIZE,
+                "its size isn't that of two coordinates"
+            );
+            assert!(
+                align_of::<$point>() == align_of::<$number>(),
+                "its alignment isn't that of a coordinate"
+            );
+            assert!(
+                offset_of!($point, $field) == 0
+                    && offset_of!($whole, $x) == 0
+                    && offset_of!($whole, $y) == SIZE,
+                "the two fields don't lie one after the other, x first"
+            );
+            // by value, and of whole patterns, as below
+            const fn _coordinates(point: $point) -> [$number; 2] {
+                type Given = $point;
+                type Whole = $whole;
+                let Given {
+                    $field: Whole { $x: x, $y: y },
+                } = point;
+                [x, y]
+            }
+        };
+        // SAFETY: as below.
+        unsafe impl $crate::int::ContourPoint for $point {
+            type Coordinate = $number;
+        }
+    };
     ($point:ty { $x:tt, $y:tt }: $number:ty) => {
         const _: () = {
             use ::core::mem::{align_of, offset_of, size_of};
@@ -257,7 +336,7 @@ macro_rules! contour_point {
                 [x, y]
             }
         };
-        // SAFETY: size, alignment, places and types of the fields are those of `IntPoint`, and of
+        // SAFETY: size, alignment, offsets and types of the fields are those of `IntPoint`, and of
         // two numbers each is a value.
         unsafe impl $crate::int::ContourPoint for $point {
             type Coordinate = $number;
@@ -270,10 +349,12 @@ pub trait AsIntPoints {
     /// The type of the coordinates.
     type Coordinate: IntNumber;
 
-    /// The same points, where they lie.
+    /// Returns the same points, where they lie.
+    #[must_use]
     fn as_int_points(&self) -> &[IntPoint<Self::Coordinate>];
 
-    /// The same points, to be written where they lie.
+    /// Returns the same points, to be written where they lie.
+    #[must_use]
     fn as_int_points_mut(&mut self) -> &mut [IntPoint<Self::Coordinate>];
 }
 
@@ -291,7 +372,8 @@ impl<P: ContourPoint> AsIntPoints for [P] {
     }
 }
 
-/// The points of a contour as points of a caller's own. Nothing is copied.
+/// Returns the points of a contour as points of a caller's own. Nothing is copied.
+#[must_use]
 pub fn from_int_points<P: ContourPoint>(contour: IntContour<P::Coordinate>) -> Vec<P> {
     let mut contour = ManuallyDrop::new(contour);
     let (start, count, room) = (contour.as_mut_ptr(), contour.len(), contour.capacity());

@@ -6,8 +6,9 @@ use crate::source::int::resource::IntShapeResource;
 
 /// The test that calls make of their points.
 pub trait IntSafeRange<I: IntNumber> {
-    /// Whether both coordinates of each point lie strictly between -2^(W-2) and 2^(W-2), where W is
-    /// their number of bits.
+    /// Returns whether both coordinates of each point lie strictly between -2^(W-2) and 2^(W-2),
+    /// where W is their number of bits.
+    #[must_use]
     fn is_in_safe_range(&self) -> bool;
 }
 

@@ -1,5 +1,8 @@
-//! The removal of zero turns: of points at which a contour goes straight on, turns back or stands
-//! still. Nothing here looks at self-intersections, or at where holes lie.
+//! The removal of zero turns. Nothing here looks at self-intersections, or at where holes lie.
+//!
+//! A point of a contour is a *zero turn* if the contour goes straight on there, turns back, or
+//! repeats a point. A contour *collapses* if removing zero turns leaves fewer than three points. The
+//! crate's [first page](crate#terms) has these terms too.
 
 use super::count::PointsCount;
 use super::shape::{IntContour, IntShape, IntShapes};
@@ -13,53 +16,62 @@ use crate::twins::twins;
 use alloc::vec::Vec;
 use core::fmt;
 
-/// The test and the removal of zero turns, and the canonical forms.
-///
-/// Each call returns [`Error::UnsafePoint`] if a point isn't safe. Those that return a contour, and
-/// those that clean a contour which isn't clean, return [`Error::NoMemory`] if an allocation fails.
+/// The test and the removal of [zero turns](self), and the canonical forms.
 pub trait SimpleContour<I: IntNumber> {
     twins! {
-        /// Whether there are at least three points, and none of them is a zero turn.
-        is_simple;
+        /// Returns whether there are at least three points, and none of them is a
+        /// [zero turn](self).
+        is_simple, must_use;
+        /// Returns [`Error::UnsafePoint`] if a point isn't safe.
         fn try_is_simple(&self) -> Result<bool, Error>;
 
-        /// The contour without zero turns, `None` if it collapses. Whatever the order of removal,
-        /// the result is the same up to rotation.
-        simplified;
+        /// Returns the contour without zero turns, `None` if it [collapses](self). Whatever the
+        /// order of removal, the result is the same up to rotation.
+        #[doc(alias = "simplify")]
+        simplified, must_use;
+        /// Returns [`Error::UnsafePoint`] if a point isn't safe, [`Error::NoMemory`] if an allocation
+        /// fails.
         fn try_simplified(&self) -> Result<Option<IntContour<I>>, Error>;
 
-        /// The contour without zero turns, from the start at which it is least, by x and then y,
-        /// point by point. `None` if it collapses.
+        /// Returns the contour without zero turns, from the start at which it is least, by x and
+        /// then y, point by point. `None` if it [collapses](self).
         ///
         /// Two contours that have a form have the same one exactly if rotations, and zero turns
         /// lost or gained, lead from one to the other.
-        canonical;
+        canonical, must_use;
+        /// Returns [`Error::UnsafePoint`] if a point isn't safe, [`Error::NoMemory`] if an allocation
+        /// fails.
         fn try_canonical(&self) -> Result<Option<IntContour<I>>, Error>;
 
-        /// The lesser of the canonical forms of the contour and of the contour reversed. `None` if
-        /// it collapses.
+        /// Returns the lesser of the canonical forms of the contour and of the contour reversed.
+        /// `None` if it [collapses](self).
         ///
         /// Two contours that have a form have the same one exactly if rotations, zero turns lost or
         /// gained, and reversals lead from one to the other.
-        canonical_unoriented;
+        canonical_unoriented, must_use;
+        /// Returns [`Error::UnsafePoint`] if a point isn't safe, [`Error::NoMemory`] if an allocation
+        /// fails.
         fn try_canonical_unoriented(&self) -> Result<Option<IntContour<I>>, Error>;
 
         /// Writes the contour without zero turns, as [`simplified`](SimpleContour::simplified)
-        /// returns it, to the front of `out`. Returns how many points these are, 0 if the contour
-        /// collapses.
+        /// returns it, to the front of `out`. Returns the number of these points, 0 if the contour
+        /// [collapses](self).
         simplify_into;
-        /// Returns [`Error::NoRoom`] if `out` is shorter than the contour. A contour that is clean
+        /// Returns [`Error::NoRoom`] if `out` is shorter than the contour, [`Error::UnsafePoint`] if
+        /// a point isn't safe, [`Error::NoMemory`] if an allocation fails. A contour that is clean
         /// or has fewer than three points takes no memory.
         fn try_simplify_into(&self, out: &mut [IntPoint<I>]) -> Result<usize, Error>;
 
         /// Does the same as [`simplify_into`](SimpleContour::simplify_into) with the
         /// [canonical form](SimpleContour::canonical).
         canonical_into;
+        /// Returns the errors of [`try_simplify_into`](SimpleContour::try_simplify_into).
         fn try_canonical_into(&self, out: &mut [IntPoint<I>]) -> Result<usize, Error>;
 
         /// Does the same as [`simplify_into`](SimpleContour::simplify_into) with the
         /// [canonical form without regard to direction](SimpleContour::canonical_unoriented).
         canonical_unoriented_into;
+        /// Returns the errors of [`try_simplify_into`](SimpleContour::try_simplify_into).
         fn try_canonical_unoriented_into(&self, out: &mut [IntPoint<I>]) -> Result<usize, Error>;
     }
 }
@@ -94,18 +106,20 @@ impl<I: IntNumber> SimpleContour<I> for [IntPoint<I>] {
     }
 }
 
-/// The test and the removal of zero turns, of a shape. Calls return the errors of
-/// [`SimpleContour`]; the test ends at the first contour that isn't simple, and reads none behind
-/// it.
+/// The test and the removal of [zero turns](self), of a shape. The test ends at the first contour
+/// that isn't simple, and reads none after it.
 pub trait SimpleShape<I: IntNumber> {
     twins! {
-        /// Whether each contour is simple.
-        is_simple;
+        /// Returns whether each contour is [simple](SimpleContour::is_simple).
+        is_simple, must_use;
+        /// Returns [`Error::UnsafePoint`] if a point that the test reads isn't safe.
         fn try_is_simple(&self) -> Result<bool, Error>;
 
-        /// The shape without zero turns and without the holes that collapse, `None` if its outer
-        /// contour does. An empty shape stays an empty shape.
-        simplified;
+        /// Returns the shape without zero turns and without the holes that [collapse](self), `None`
+        /// if its outer contour does. An empty shape stays an empty shape.
+        simplified, must_use;
+        /// Returns [`Error::UnsafePoint`] if a point isn't safe, [`Error::NoMemory`] if an allocation
+        /// fails.
         fn try_simplified(&self) -> Result<Option<IntShape<I>>, Error>;
     }
 }
@@ -123,16 +137,21 @@ impl<I: IntNumber> SimpleShape<I> for [IntContour<I>] {
     }
 }
 
-/// The test and the removal of zero turns, of a list of shapes. Calls return the errors of
-/// [`SimpleShape`].
+/// The test and the removal of [zero turns](self), of a list of shapes. The test ends at the first
+/// contour that isn't simple, and reads none after it.
 pub trait SimpleShapes<I: IntNumber> {
     twins! {
-        /// Whether each contour of each shape is simple.
-        is_simple;
+        /// Returns whether each contour of each shape is [simple](SimpleContour::is_simple).
+        is_simple, must_use;
+        /// Returns [`Error::UnsafePoint`] if a point that the test reads isn't safe.
         fn try_is_simple(&self) -> Result<bool, Error>;
 
-        /// The shapes that are left, in order, each as [`SimpleShape::simplified`] returns it.
-        simplified;
+        /// Returns the shapes that are left, in order, each as [`SimpleShape::simplified`] returns
+        /// it.
+        #[doc(alias = "simplify_shapes")]
+        simplified, must_use;
+        /// Returns [`Error::UnsafePoint`] if a point isn't safe, [`Error::NoMemory`] if an allocation
+        /// fails.
         fn try_simplified(&self) -> Result<IntShapes<I>, Error>;
     }
 }
@@ -154,14 +173,17 @@ impl<I: IntNumber> SimpleShapes<I> for [IntShape<I>] {
     }
 }
 
-/// The removal of zero turns in place, of a contour, a shape or a list of shapes.
+/// The removal of [zero turns](self) in place, of a contour, a shape or a list of shapes.
 pub trait Simplify {
     twins! {
-        /// Removes zero turns. A contour that collapses, and a shape whose outer contour does, is
-        /// empty afterwards; holes that collapse, and such shapes of a list, are taken out. Returns
-        /// `false` if each contour is simple: then nothing changes.
+        /// Removes zero turns. A contour that [collapses](self), and a shape whose outer contour
+        /// does, is empty afterwards; holes that collapse, and such shapes of a list, are taken out.
+        /// Returns `false` if each contour is simple: then nothing changes.
+        #[doc(alias = "simplify_shape")]
+        #[doc(alias = "simplify_shapes")]
         simplify_contour;
-        /// Returns the errors of [`SimpleContour`], and changes nothing then.
+        /// Returns [`Error::UnsafePoint`] if a point isn't safe, [`Error::NoMemory`] if an allocation
+        /// fails. Then nothing changes.
         fn try_simplify_contour(&mut self) -> Result<bool, Error>;
     }
 }
@@ -203,8 +225,8 @@ pub struct ContourSimplifier {
 
 impl ContourSimplifier {
     twins! {
-        /// The contour without zero turns, as [`SimpleContour::simplified`] returns it.
-        simplify_contour;
+        /// Returns the contour without zero turns, as [`SimpleContour::simplified`] does.
+        simplify_contour, must_use;
         /// Returns the errors of [`SimpleContour::try_simplified`].
         pub fn try_simplify_contour[I: IntNumber](
             &mut self,
@@ -230,7 +252,7 @@ impl fmt::Debug for ContourSimplifier {
     }
 }
 
-/// What `ask` returns of each item. An error counts the points of the items before it, too.
+/// Returns what `ask` returns of each item. An error counts the points of the items before it, too.
 pub(super) fn of_each<T, U>(
     items: &[T],
     points_count: impl Fn(&T) -> usize,
@@ -243,7 +265,7 @@ pub(super) fn of_each<T, U>(
     })
 }
 
-/// Whether each item passes a test; the first refusal or `false` ends it.
+/// Returns whether each item passes a test; the first refusal or `false` ends it.
 pub(super) fn each<T>(
     items: &[T],
     points_count: impl Fn(&T) -> usize,

@@ -1,5 +1,5 @@
-//! How often the contours of a shape wind about points together, which points a fill rule fills by
-//! that, and which lie on an edge.
+//! The winding numbers of a shape about points, which points a fill rule fills by them, and which
+//! lie on an edge.
 
 use super::shape::IntContour;
 use super::simple::of_each;
@@ -10,39 +10,49 @@ use crate::twins::twins;
 use crate::{Error, FillRule, Location};
 use alloc::vec::Vec;
 
-/// How often the contours of a shape wind about points together, which points a fill rule fills by
-/// that, and which lie on an edge.
+/// The winding numbers of a shape about points, which points a fill rule fills by them, and which lie
+/// on an edge.
 ///
-/// Each call returns [`Error::UnsafeAbout`] if a point that is asked about isn't safe, and
-/// [`Error::UnsafePoint`] if one of the shape isn't. Those about many points copy the contours, and
-/// return [`Error::NoMemory`] if an allocation fails.
+/// Calls about many points copy the contours.
 pub trait ShapeExtension<I: IntNumber> {
     twins! {
-        /// The sum of the contours' winding numbers about `point`.
-        winding_number;
+        /// Returns the sum of the contours' winding numbers about `point`.
+        winding_number, must_use;
+        /// Returns [`Error::UnsafeAbout`] if that point isn't safe, [`Error::UnsafePoint`] if one of
+        /// the shape isn't.
         fn try_winding_number(&self, point: IntPoint<I>) -> Result<isize, Error>;
 
-        /// Whether a fill rule fills `point`.
-        contains_by;
+        /// Returns whether a fill rule fills `point`.
+        contains_by, must_use;
+        /// Returns [`Error::UnsafeAbout`] if that point isn't safe, [`Error::UnsafePoint`] if one of
+        /// the shape isn't.
         fn try_contains_by(&self, point: IntPoint<I>, rule: FillRule) -> Result<bool, Error> {
             Ok(rule.fills(self.try_winding_number(point)?))
         }
 
-        /// The sum of the contours' winding numbers about each of the points.
-        winding_numbers;
+        /// Returns the sum of the contours' winding numbers about each of the points.
+        winding_numbers, must_use;
+        /// Returns [`Error::UnsafeAbout`] if one of these points isn't safe, [`Error::UnsafePoint`] if
+        /// one of the shape isn't, [`Error::NoMemory`] if an allocation fails.
         fn try_winding_numbers(&self, points: &[IntPoint<I>]) -> Result<Vec<isize>, Error>;
 
-        /// Which of the points a fill rule fills.
-        contains_points;
+        /// Returns of each of the points whether a fill rule fills it.
+        contains_points, must_use;
+        /// Returns [`Error::UnsafeAbout`] if one of these points isn't safe, [`Error::UnsafePoint`] if
+        /// one of the shape isn't, [`Error::NoMemory`] if an allocation fails.
         fn try_contains_points(&self, points: &[IntPoint<I>], rule: FillRule) -> Result<Vec<bool>, Error>;
 
-        /// Whether `point` lies on an edge of a contour, its ends included.
-        is_on_boundary;
+        /// Returns whether `point` lies on an edge of a contour, its ends included.
+        is_on_boundary, must_use;
+        /// Returns [`Error::UnsafeAbout`] if that point isn't safe, [`Error::UnsafePoint`] if one of
+        /// the shape isn't.
         fn try_is_on_boundary(&self, point: IntPoint<I>) -> Result<bool, Error>;
 
-        /// Where each of the points lies, by a fill rule: also whether on an edge, for which it
-        /// looks at each edge until it finds one that the point lies on.
-        locate;
+        /// Returns where each of the points lies, by a fill rule: also whether on an edge, for which
+        /// it looks at each edge until it finds one that the point lies on.
+        locate, must_use;
+        /// Returns [`Error::UnsafeAbout`] if one of these points isn't safe, [`Error::UnsafePoint`] if
+        /// one of the shape isn't, [`Error::NoMemory`] if an allocation fails.
         fn try_locate(&self, points: &[IntPoint<I>], rule: FillRule) -> Result<Vec<Location>, Error>;
     }
 }

@@ -5,6 +5,7 @@ use i_shape::flat::{Contours, OwnedShapes, Shapes};
 use i_shape::int::IntPoint;
 use i_shape::int::area::Area;
 use i_shape::int::canonical::{CanonicalShape, CanonicalShapes};
+use i_shape::int::contacts::ContourContacts;
 use i_shape::int::despike::{DeSpike, DeSpikeContour, DeSpikeShape, DeSpikeShapes};
 use i_shape::int::path::ContourExtension;
 use i_shape::int::shape::{IntContour, IntShape};
@@ -69,6 +70,15 @@ fn contours_with_an_unsafe_point<I: Number>() {
     refuses!(error, given, try_despiked_contour, despiked_contour);
     refuses!(error, given, try_despike_into, despike_into, &mut out);
     refuses!(error, given, try_is_convex, is_convex);
+    refuses!(error, given, try_first_contact, first_contact);
+    refuses!(error, given, try_is_simple_polygon, is_simple_polygon);
+    // also of fewer than three points
+    refuses!(
+        Error::UnsafePoint(0),
+        given[3..],
+        try_is_simple_polygon,
+        is_simple_polygon
+    );
     refuses!(error, given, try_contains_point, contains_point, inside);
     refuses!(error, given, try_winding_number, winding_number, inside);
     refuses!(
@@ -189,10 +199,17 @@ fn batches_with_an_unsafe_point<I: Number>() {
     // an error counts the points before the first contour, too
     let behind = Contours::new(&points, &[2, 5]);
     refuses!(error, behind, try_simplified, simplified);
+    refuses!(error, behind, try_first_contact, first_contact);
     let behind = Shapes::new(&points, &[0, 2, 5], &[1, 2]);
     refuses!(error, behind, try_simplified, simplified);
+    refuses!(error, behind, try_first_contacts, first_contacts);
+    let apart = Shapes::new(&points, &[0, 2, 5], &[0, 1, 2]);
+    refuses!(error, apart, try_first_contacts, first_contacts);
+    refuses!(error, behind, try_validity, validity);
+    refuses!(error, apart, try_validity, validity);
     let contours = Contours::new(&points, &[0, 5]);
     refuses!(error, contours, try_simplified, simplified);
+    refuses!(error, contours, try_first_contact, first_contact);
     refuses!(error, contours, try_despiked, despiked);
     refuses!(error, contours, try_canonical, canonical);
     refuses!(

@@ -333,6 +333,21 @@ fn polygons_behind_an_offset<I: Number>() {
     );
     let outer = polygons.get(0).and_then(|contours| contours.get(0));
     assert_eq!(outer, Some(&points[3..8]));
+    let contours = Contours::new(&points[..11], &[3, 8, 11]);
+    assert_eq!(polygons.as_contours(), contours);
+    let about = [[0, 0], [1, 1], [2, 3], [3, 1], [9, 9]].map(point);
+    assert_eq!(
+        polygons.winding_numbers(&about),
+        contours.winding_numbers(&about)
+    );
+    let rule = FillRule::NonZero;
+    assert_eq!(
+        polygons.contains_points(&about, rule),
+        contours.contains_points(&about, rule)
+    );
+    assert_eq!(polygons.locate(&about, rule), contours.locate(&about, rule));
+    let unsafe_about = polygons.try_locate(&[unsafe_point], rule);
+    assert_eq!(unsafe_about, Err(Error::UnsafeAbout(0)));
     assert_eq!(polygons.get(1), None);
 }
 

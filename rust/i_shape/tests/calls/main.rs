@@ -1,5 +1,6 @@
 //! The calls by their definitions: happy paths at each width, small and large, and each error.
 
+mod contacts;
 mod contours;
 mod errors;
 mod flat;

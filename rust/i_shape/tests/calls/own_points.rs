@@ -33,6 +33,31 @@ struct Vertex<T> {
 
 contour_point!(Vertex<i16> { x, y }: i16);
 
+mod foreign {
+    #[repr(C)]
+    #[derive(Clone, Copy, Debug, PartialEq)]
+    pub struct Coord<T> {
+        pub x: T,
+        pub y: T,
+    }
+}
+
+/// A point of another crate, in a type of one's own.
+#[repr(transparent)]
+#[derive(Clone, Copy, Debug, PartialEq)]
+struct Wrapped(foreign::Coord<i64>);
+
+contour_point!(Wrapped { 0: foreign::Coord<i64> { x, y } }: i64);
+
+/// The field has a name.
+#[repr(transparent)]
+#[derive(Clone, Copy, Debug, PartialEq)]
+struct Named {
+    place: foreign::Coord<i16>,
+}
+
+contour_point!(Named { place: foreign::Coord<i16> { x, y } }: i16);
+
 const STRAIGHT: [[i8; 2]; 5] = [[4, 4], [0, 4], [0, 0], [2, 0], [4, 0]];
 
 /// The cleaners read such points where they lie and give such points back.
@@ -84,6 +109,22 @@ fn fields_of_a_type_parameter() {
     cleaned(|x, y| Vertex::<i16> {
         x: x.into(),
         y: y.into(),
+    });
+}
+
+#[test]
+fn points_of_another_crate() {
+    cleaned(|x, y| {
+        Wrapped(foreign::Coord {
+            x: x.into(),
+            y: y.into(),
+        })
+    });
+    cleaned(|x, y| Named {
+        place: foreign::Coord {
+            x: x.into(),
+            y: y.into(),
+        },
     });
 }
 

@@ -7,7 +7,7 @@ use core::iter::FusedIterator;
 use core::ops::Range;
 use core::slice;
 
-/// What goes over the ranges of a buffer. It panics at a range that runs backwards or doesn't lie
+/// Iterator over the paths of a buffer. It panics at a range that runs backwards or doesn't lie
 /// within the points.
 #[derive(Clone, Debug)]
 pub struct IntBufferResourceIterator<'a, I> {

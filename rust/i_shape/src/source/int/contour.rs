@@ -4,7 +4,7 @@ use super::resource::IntShapeResource;
 use crate::int::{IntNumber, IntPoint};
 use core::iter;
 
-/// What goes over the one path.
+/// Iterator over the one path.
 pub type ContourResourceIterator<'a, P> = iter::Once<&'a [P]>;
 
 impl<I: IntNumber> IntShapeResource<I> for [IntPoint<I>] {

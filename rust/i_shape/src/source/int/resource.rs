@@ -21,13 +21,13 @@ pub use super::buffer::IntBufferResourceIterator as BufferPaths;
 /// Of shapes the contours are lent, one shape after the other; of a flat buffer those of its
 /// contours' ranges, in their order.
 pub trait IntShapeResource<I: IntNumber> {
-    /// What goes over the paths.
+    /// Iterator over the paths.
     type ResourceIter<'a>: Iterator<Item = &'a [IntPoint<I>]>
     where
         I: 'a,
         Self: 'a;
 
-    /// The paths, in order.
+    /// Returns the paths, in order.
     fn iter_paths(&self) -> Self::ResourceIter<'_>;
 }
 

@@ -6,7 +6,7 @@ use crate::int::{IntNumber, IntPoint};
 use alloc::vec::Vec;
 use core::{iter, slice};
 
-/// What goes over the paths of a list.
+/// Iterator over the paths of a list.
 pub type ShapeResourceIterator<'a, P> =
     iter::Map<slice::Iter<'a, Vec<P>>, fn(&'a Vec<P>) -> &'a [P]>;
 

@@ -6,7 +6,7 @@ use crate::int::{IntNumber, IntPoint};
 use alloc::vec::Vec;
 use core::{iter, slice};
 
-/// What goes over the paths of each shape of a list.
+/// Iterator over the paths of each shape of a list.
 pub type ShapesResourceIterator<'a, P> =
     iter::Map<iter::Flatten<slice::Iter<'a, Vec<Vec<P>>>>, fn(&'a Vec<P>) -> &'a [P]>;
 

@@ -1,0 +1,77 @@
+//! First contacts of many contours, and of each of many polygons; which of these are valid.
+
+use super::offsets::try_rebased;
+use super::{Contours, Shapes};
+use crate::Error;
+use crate::calls::{first_contact_of_many, validity_of};
+use crate::int::IntNumber;
+use crate::int::contacts::{Contact, Validity};
+use crate::memory::made_of_each;
+use crate::twins::twins;
+use alloc::vec::Vec;
+
+impl<I: IntNumber> Contours<'_, I> {
+    twins! {
+        /// Returns the first [contact](crate::int::contacts) of the edges of all contours together,
+        /// within a contour or between two. Its indices are of [`points`](Contours::points).
+        ///
+        /// ```
+        /// use i_shape::flat::Contours;
+        /// use i_shape::int::AsIntPoints;
+        /// use i_shape::int::contacts::Contact;
+        ///
+        /// // a square, and in it a hole that touches its upper edge
+        /// let points = [[0_i32, 0], [9, 0], [9, 9], [0, 9], [2, 2], [4, 9], [6, 2]];
+        /// let contours = Contours::new(points.as_int_points(), &[0, 4, 7]);
+        /// assert_eq!(contours.first_contact(), Some(Contact { first: 2, second: 4 }));
+        /// ```
+        first_contact, must_use;
+        /// Returns [`Error::UnsafePoint`] if a point of a contour isn't safe. If the first offset is
+        /// above 0, the offsets are copied: [`Error::NoMemory`] if that allocation fails.
+        pub fn try_first_contact(self) -> Result<Option<Contact>, Error> {
+            let before = self.offsets[0];
+            let rebased = try_rebased(self.offsets)?;
+            first_contact_of_many(&self.points[before..], &rebased, before)
+        }
+    }
+}
+
+impl<I: IntNumber> Shapes<'_, I> {
+    twins! {
+        /// Returns of each polygon, in order, the first [contact](crate::int::contacts) of the edges
+        /// of its contours. Its indices are of [`points`](Shapes::points), the points of all
+        /// polygons. Edges of different polygons aren't compared.
+        first_contacts, must_use;
+        /// Returns [`Error::UnsafePoint`] if a point of a polygon isn't safe, [`Error::NoMemory`] if
+        /// there is none for the result or for a copy of a polygon's offsets.
+        pub fn try_first_contacts(self) -> Result<Vec<Option<Contact>>, Error> {
+            made_of_each(self.iter(), Contours::try_first_contact)
+        }
+
+        /// Returns of each polygon, in order, the first [fault](crate::int::contacts::Validity), or
+        /// `Valid`. Its indices are of [`contours`](Shapes::contours) and
+        /// [`points`](Shapes::points), those of all polygons. Different polygons aren't compared.
+        ///
+        /// ```
+        /// use i_shape::flat::Shapes;
+        /// use i_shape::int::AsIntPoints;
+        /// use i_shape::int::contacts::Validity;
+        ///
+        /// // a triangle, and a square with a hole beside it
+        /// let points = [[0_i32, 0], [4, 0], [0, 4], [0, 0], [4, 0], [4, 4], [0, 4], [6, 1], [6, 2], [7, 1]];
+        /// let polygons = Shapes::new(points.as_int_points(), &[0, 3, 7, 10], &[0, 1, 3]);
+        /// assert_eq!(polygons.validity(), [Validity::Valid, Validity::HoleOutside { contour: 2 }]);
+        /// ```
+        validity, must_use;
+        /// Returns [`Error::UnsafePoint`] if a point of a polygon isn't safe, [`Error::NoMemory`] if
+        /// there is none for the result or for a copy of a polygon's offsets.
+        pub fn try_validity(self) -> Result<Vec<Validity>, Error> {
+            made_of_each(self.iter().zip(self.shapes()), |(polygon, &contour)| {
+                let before = polygon.offsets[0];
+                let rebased = try_rebased(polygon.offsets)?;
+                let found = validity_of(&polygon.points[before..], &rebased, before)?;
+                Ok(found.behind(contour))
+            })
+        }
+    }
+}

@@ -1,0 +1,176 @@
+//! Whether and where edges touch, cross or overlap.
+//!
+//! An edge leads from each point to the next one, the last edge of a contour to its first point. Two
+//! edges are in *contact* if they share a point other than one at which one of them follows the
+//! other.
+//!
+//! ```
+//! use i_shape::int::contacts::{Contact, ContourContacts};
+//! use i_shape::int_path;
+//!
+//! // the first edge and the third cross at (2, 2)
+//! let bow_tie = int_path![[0_i32, 0], [4, 4], [4, 0], [0, 4]];
+//! assert_eq!(bow_tie.first_contact(), Some(Contact { first: 0, second: 2 }));
+//! assert!(!bow_tie.is_simple_polygon());
+//! ```
+//!
+//! Of several contours together, such as a polygon with its holes,
+//! [`Contours::first_contact`](crate::flat::Contours::first_contact) returns the first contact, and of
+//! each of many polygons [`Shapes::first_contacts`](crate::flat::Shapes::first_contacts).
+//!
+//! These calls take nearly linear time where few boxes around edges overlap, and otherwise up to
+//! quadratic time. They take memory for these boxes; if an allocation fails, they try all pairs of
+//! edges, with the same result.
+//!
+//! A polygon is *valid* if none of its contours is degenerate, no two edges are in contact, each
+//! vertex of each hole lies inside the outer contour, and none lies inside another hole.
+//! [`ShapeValidity`] returns the first fault of a polygon, and
+//! [`Shapes::validity`](crate::flat::Shapes::validity) that of each of many.
+//!
+//! ```
+//! use i_shape::int::contacts::{ShapeValidity, Validity};
+//! use i_shape::int_shape;
+//!
+//! // a hole beside the square
+//! let polygon = int_shape![[[0_i32, 0], [4, 0], [4, 4], [0, 4]], [[6, 1], [6, 2], [7, 1]]];
+//! assert_eq!(polygon.validity(), Validity::HoleOutside { contour: 1 });
+//! assert!(polygon[..1].is_valid());
+//! ```
+
+use super::shape::IntContour;
+use super::{IntNumber, IntPoint};
+use crate::flat::OwnedContours;
+use crate::twins::twins;
+use crate::{Error, calls};
+
+/// Two edges that are in contact, each named by the index of the point from which it leads.
+#[derive(Clone, Copy, Debug, PartialEq, Eq, Hash)]
+pub struct Contact {
+    /// The index of the point from which the first of the two edges leads.
+    pub first: usize,
+    /// That of the second one, above `first`.
+    pub second: usize,
+}
+
+/// What is wrong with a polygon, if anything. The call that returns it says what the indices of
+/// contours and edges count.
+#[derive(Clone, Copy, Debug, PartialEq, Eq, Hash)]
+pub enum Validity {
+    /// Nothing is wrong.
+    Valid,
+    /// A contour has fewer than three points, or all its points are equal.
+    Collapsed {
+        /// The index of that contour.
+        contour: usize,
+    },
+    /// Two edges are in contact, of one contour or of two.
+    Contact(Contact),
+    /// A hole has a vertex about which the winding number of the outer contour is 0.
+    HoleOutside {
+        /// The index of that hole among the contours.
+        contour: usize,
+    },
+    /// A hole has a vertex about which the winding number of another hole isn't 0.
+    HoleWithin {
+        /// The index of that hole among the contours.
+        contour: usize,
+        /// That of the other hole.
+        other: usize,
+    },
+}
+
+impl Validity {
+    /// Returns whether nothing is wrong.
+    #[must_use]
+    pub fn is_valid(self) -> bool {
+        self == Validity::Valid
+    }
+
+    /// Returns the same fault for a list with `count` contours before these.
+    pub(crate) fn behind(self, count: usize) -> Self {
+        let shifted = |contour| count + contour;
+        match self {
+            Validity::Collapsed { contour } => Validity::Collapsed {
+                contour: shifted(contour),
+            },
+            Validity::HoleOutside { contour } => Validity::HoleOutside {
+                contour: shifted(contour),
+            },
+            Validity::HoleWithin { contour, other } => Validity::HoleWithin {
+                contour: shifted(contour),
+                other: shifted(other),
+            },
+            Validity::Valid | Validity::Contact(_) => self,
+        }
+    }
+}
+
+/// The first contact of a contour, and the test for a simple polygon.
+pub trait ContourContacts<I: IntNumber> {
+    twins! {
+        /// Returns the first contact: of the first edge that is in contact with one after it, that
+        /// with the first such edge. `None` if no two edges are in contact.
+        ///
+        /// The edges of a spike are in contact. So are edges at a point that a contour of more than
+        /// three points passes twice, such as one that repeats.
+        first_contact, must_use;
+        /// Returns [`Error::UnsafePoint`] if a point isn't safe.
+        fn try_first_contact(&self) -> Result<Option<Contact>, Error>;
+
+        /// Returns whether the contour is the boundary of a simple polygon: it has at least three
+        /// points, not all of them equal, and no contact.
+        ///
+        /// Points at which it goes straight on are allowed, unlike by
+        /// [`is_simple`](super::simple::SimpleContour::is_simple), which looks only at three points
+        /// at a time.
+        is_simple_polygon, must_use;
+        /// Returns [`Error::UnsafePoint`] if a point isn't safe.
+        fn try_is_simple_polygon(&self) -> Result<bool, Error>;
+    }
+}
+
+impl<I: IntNumber> ContourContacts<I> for [IntPoint<I>] {
+    fn try_first_contact(&self) -> Result<Option<Contact>, Error> {
+        calls::first_contact(self)
+    }
+
+    fn try_is_simple_polygon(&self) -> Result<bool, Error> {
+        calls::is_simple_polygon(self)
+    }
+}
+
+/// Whether a polygon is [valid](self), and its first fault.
+///
+/// These calls copy the contours.
+pub trait ShapeValidity<I: IntNumber> {
+    twins! {
+        /// Returns the first fault, or [`Validity::Valid`]. Faults come in this order: the first
+        /// contour that is degenerate, the first contact, the first hole that is outside the outer
+        /// contour, and the first hole that is within another, with the first such other. A shape
+        /// without contours is valid.
+        ///
+        /// Its indices are of the contours, and of their points, counted over all contours in order.
+        ///
+        /// Contacts take the time of [`first_contact`](ContourContacts::first_contact). If there are
+        /// none, the call also takes time proportional to the number of holes times that of the
+        /// points.
+        validity, must_use;
+        /// Returns [`Error::UnsafePoint`] if a point isn't safe, [`Error::NoMemory`] if the copy
+        /// fails.
+        fn try_validity(&self) -> Result<Validity, Error>;
+
+        /// Returns whether the polygon is valid.
+        is_valid, must_use;
+        /// Returns the errors of [`try_validity`](ShapeValidity::try_validity).
+        fn try_is_valid(&self) -> Result<bool, Error> {
+            Ok(self.try_validity()?.is_valid())
+        }
+    }
+}
+
+impl<I: IntNumber> ShapeValidity<I> for [IntContour<I>] {
+    fn try_validity(&self) -> Result<Validity, Error> {
+        let contours = OwnedContours::try_from_contours(self)?;
+        calls::validity_of(contours.points(), contours.offsets(), 0)
+    }
+}
