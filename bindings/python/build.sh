@@ -18,7 +18,7 @@ out=${1-}
 }
 work=$(mktemp -d)
 trap 'rm -rf "$work"' EXIT
-cp -R "$here/src" "$here/README.md" "$here/pyproject.toml" "$here/setup.py" "$top/LICENSE" "$top/include/i_shape.h" "$work"
+cp -R "$here/src" "$here/README.md" "$here/pyproject.toml" "$here/setup.py" "$top/LICENSE" "$top/NOTICE" "$top/include/i_shape.h" "$work"
 find "$work" -name __pycache__ -prune -exec rm -rf {} +
 cp "$library" "$work/src/i_shape/libi_shape.so"
 [ -z "${WHEEL_FASTER-}" ] || cp "$WHEEL_FASTER/libi_shape.so" "$work/src/i_shape/libi_shape-v2.so"

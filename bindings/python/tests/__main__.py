@@ -1,12 +1,14 @@
 """Runs the tests, and ends in a line 'N passed, M failed'.
 
-Behind it stands ', K skipped' where some are skipped."""
+Behind it stands ', K skipped' where some are skipped. A word names another
+folder of tests than that of this file."""
 
 import sys
 import unittest
 from pathlib import Path
 
-tests = unittest.defaultTestLoader.discover(str(Path(__file__).parent))
+folder, = sys.argv[1:] or [str(Path(__file__).parent)]
+tests = unittest.defaultTestLoader.discover(folder)
 result = unittest.TextTestRunner(verbosity=1).run(tests)
 faults = [test for test, _ in result.failures + result.errors]
 failed = {getattr(test, "test_case", test).id() for test in faults}

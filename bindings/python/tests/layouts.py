@@ -3,8 +3,9 @@
     klayout -b -r layouts.py -rd made=GDS -rd rings=JSON
     klayout -b -r layouts.py -rd told=GDS -rd rings=JSON
 
-The rings of what is made are those that Polygon.compress(true) leaves. Each
-layer of each cell has 150 polygons, or as many as -rd polygons=N tells."""
+The rings of what is made are those that Polygon.compress(true) leaves, and
+where it leaves none, the box of the polygon as a text. Each layer of each
+cell has 150 polygons, or as many as -rd polygons=N says."""
 
 import json
 import random
@@ -42,8 +43,9 @@ def make():
             for _ in range(POLYGONS):
                 polygon = random_polygon(numbers)
                 shapes.insert(polygon)
+                box = str(polygon.bbox())
                 polygon.compress(True)
-                rings.append(ring_of(polygon))
+                rings.append(ring_of(polygon) or box)
             shapes.insert(pya.Box(0, 0, 5, 5))
             rings.append([(0, 0), (5, 0), (5, 5), (0, 5)])
             shapes.insert(pya.Path([pya.Point(0, 0), pya.Point(9, 0)], 4))

@@ -1,6 +1,8 @@
 """What the calls should answer, by plain loops over tuples, and random
 rings to ask about."""
 
+from fractions import Fraction
+
 import numpy as np
 
 import i_shape._library
@@ -112,6 +114,70 @@ def is_convex(ring):
     crosses = [cross(*turn) for turn in turns(ring)]
     return len(ring) <= 2 or has_no_spikes(ring) and not (
         min(crosses) < 0 < max(crosses))
+
+
+def shared(a, b, c, e):
+    """The ends of what the segments a-b and c-e share, None for nothing."""
+    u, v, w = ((q[0] - p[0], q[1] - p[1]) for p, q in ((a, b), (c, e), (a, c)))
+    across, on_v, on_u = (s[0] * t[1] - s[1] * t[0]
+                          for s, t in ((u, v), (w, v), (w, u)))
+    if across:
+        s, t = Fraction(on_v, across), Fraction(on_u, across)
+        if not (0 <= s <= 1 and 0 <= t <= 1):
+            return None
+        point = a[0] + s * u[0], a[1] + s * u[1]
+        return point, point
+    if on_u or on_v:
+        return None
+    low, high = max(min(a, b), min(c, e)), min(max(a, b), max(c, e))
+    return (low, high) if low <= high else None
+
+
+def first_contact(rings):
+    """The first two edges of the rings that share a point other than one at
+    which one of them follows the other, by all pairs."""
+    ends = []
+    for ring in rings:
+        start, count = len(ends), len(ring)
+        ends += [start + (k + 1) % count for k in range(count)]
+    points = [tuple(map(int, point)) for ring in rings for point in ring]
+    for i, of_i in enumerate(ends):
+        for j in range(i + 1, len(ends)):
+            both = shared(points[i], points[of_i], points[j], points[ends[j]])
+            allowed = [points[j]] * (of_i == j) + [points[i]] * (ends[j] == i)
+            if both and (both[0] != both[1] or both[0] not in allowed):
+                return i, j
+    return None
+
+
+def is_simple_polygon(ring):
+    return (len(ring) >= 3 and len({*ring}) > 1
+            and first_contact([ring]) is None)
+
+
+def is_degenerate(ring):
+    return len(ring) < 3 or len(set(ring)) == 1
+
+
+def first_fault(rings):
+    """The first fault of a polygon, an outer ring and holes: the number of
+    its kind, and two places."""
+    holes = range(1, len(rings))
+    for place, ring in enumerate(rings):
+        if is_degenerate(ring):
+            return 1, place, 0
+    contact = first_contact(rings)
+    if contact:
+        return 2, *contact
+    for hole in holes:
+        if any(winding(rings[0], point) == 0 for point in rings[hole]):
+            return 3, hole, 0
+    for hole in holes:
+        for other in holes:
+            if other != hole and any(winding(rings[other], point)
+                                     for point in rings[hole]):
+                return 4, hole, other
+    return 0, 0, 0
 
 
 def contains(ring, point):

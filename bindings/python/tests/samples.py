@@ -1,10 +1,16 @@
 """Random features, as lists, and the arrays of them."""
 
+import os
+import unittest
+
 import numpy as np
 
 from i_shape import Polygons
 from i_shape.io import Features
 
+# For a test, or a case of tests, that takes seconds.
+is_long = bool(os.environ.get("LONG_TESTS"))
+takes_long = unittest.skipUnless(is_long, "LONG_TESTS is not set")
 SQUARE = [(0, 0), (4, 0), (4, 4), (0, 4)]
 
 

@@ -16,7 +16,8 @@ SQUARE = [(0, 0), (4, 0), (4, 4), (0, 4)]
 CALLS = (
     i_shape.simplify, i_shape.despike, i_shape.canonical, i_shape.area_two,
     i_shape.is_simple, i_shape.has_no_spikes, i_shape.is_convex,
-    i_shape.is_safe,
+    i_shape.is_safe, i_shape.is_simple_polygon, i_shape.first_contact,
+    lambda points: i_shape.first_contact_of_rings(points, [0, len(points)]),
     lambda points: i_shape.contains(points, (1, 1)),
     lambda points: i_shape.simplify_rings(points, [0, len(points)]),
     lambda points: i_shape.despike_rings(points, [0, len(points)],

@@ -6,6 +6,7 @@ import io as text_io
 import json
 import os
 import random
+import re
 import signal
 import subprocess
 import sys
@@ -104,6 +105,11 @@ class Refused(CommandCase):
                 ("POLYGON ((0 0, 1 nan))", "ring 0, point 1: 'nan'"),
                 ("POLYGON ((0 0, 1 1)\n", "feature 0: ')' is needed"),
                 ("POLYGON Z ((0 0 0, 1 1 1))", "feature 0: a POLYGON of two"),
+                ("POLYGON Z ((0 0 0, 1 1 1))",
+                 "--others drop allows it; `ogr2ogr -dim XY` drops heights"),
+                ("POLYGON ((0 0 0, 1 1 1))", "; `ogr2ogr -dim XY` drops"),
+                ("POINT (0 0)",
+                 "; --others keep or --others drop allows it\n"),
                 ("\0", "feature 0: POLYGON or MULTIPOLYGON")):
             with self.subTest(text=text):
                 path = self.write(text, "a.wkt")
@@ -273,10 +279,28 @@ class Refused(CommandCase):
 
     def test_a_new_file_has_a_name_of_its_own(self):
         self.write(samples.geojson(samples.polygon(SPIKED)))
-        old = self.folder / f".{self.out.name}.{os.getpid()}.part"
+        old = self.folder / f".{self.out.name}.i_shape-{os.getpid()}"
         old.write_text("of another run")
         self.run_command("simplify", self.given, self.out, "--step", "0.1")
         self.assertEqual(old.read_text(), "of another run")
+
+    def test_what_a_killed_run_leaves_has_the_name_of_the_file(self):
+        self.write(samples.geojson(samples.polygon(SPIKED)))
+        letters = "\u00fc" * 60
+        long = self.folder / f"{letters}.geojson"
+        for out, name in ((self.out, self.out.name), (long, letters[:50])):
+            before = set(self.folder.iterdir())
+            program = ("import os, signal; from i_shape import __main__\n"
+                       "from i_shape._command import text_files\n"
+                       "text_files.TextPair.end = lambda *_: os.kill("
+                       "os.getpid(), signal.SIGKILL)\n__main__.run()")
+            run = subprocess.run(
+                [sys.executable, "-c", program, "simplify", self.given, out,
+                 "--step", "0.1"], check=False)
+            self.assertEqual(run.returncode, -signal.SIGKILL)
+            left, = set(self.folder.iterdir()) - before
+            self.assertRegex(left.name, rf"\A\.{re.escape(name)}"
+                             r"\.i_shape-\w{8}\Z")
 
     def test_signals_leave_nothing_behind(self):
         self.write(samples.geojson(samples.polygon(SPIKED)))
@@ -338,6 +362,8 @@ class Refused(CommandCase):
                 (["clean", self.given, self.out, "--step", "1"], "choose"),
                 (["simplify", self.given, "a.shp", "--step", "1"], "a.shp"),
                 (["simplify", "a", self.out, "--step", "1"], "a doesn't end"),
+                (["simplify", "a.SHP", self.out, "--step", "1"],
+                 "clean a shapefile as a GeoPackage: ogr2ogr x.gpkg IN.shp"),
                 (["simplify", self.given, self.out, "--step", "-1"],
                  "step is -1.0"),
                 (["simplify", self.given, self.out, "--step", "-1e-7"],

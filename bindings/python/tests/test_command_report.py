@@ -37,9 +37,9 @@ features with polygons: 3 before, 2 after
 polygons: 4 before, 2 after
 rings: 6 before, 3 after
 points: 23 before, 11 after
-area as given: 0.315
-area before: 0.315, 31.5 cells of the grid
-area after: 0.315, 31.5 cells of the grid
+area as given: 0.315 square units
+area before: 0.315 square units, 31.5 cells of the grid
+area after: 0.315 square units, 31.5 cells of the grid
 collapsed: feature 0, polygon 0, ring 1
 collapsed: feature 1, polygon 0, ring 0
 collapsed: feature 2, polygon 1, ring 0
@@ -50,9 +50,11 @@ collapsed: feature 2, polygon 1, ring 0
             [(0, 0), (10.4, 0), (10.4, 10.4), (0, 10.4)])))
         told, _ = self.run_command("simplify", self.given, self.out,
                                    "--step", "1", "--report")
-        self.assertIn("area as given: 108.16\n", told)
-        self.assertIn("area before: 100, 100 cells of the grid\n", told)
-        self.assertIn("area after: 100, 100 cells of the grid\n", told)
+        self.assertIn("area as given: 108.16 square units\n", told)
+        self.assertIn("area before: 100 square units, 100 cells of the grid\n",
+                      told)
+        self.assertIn("area after: 100 square units, 100 cells of the grid\n",
+                      told)
 
     def test_holes_may_be_greater_than_the_ring_around_them(self):
         hole = [(0, 0), (7, 0), (0, 7)]
@@ -62,7 +64,8 @@ collapsed: feature 2, polygon 1, ring 0
             self.write(document)
             told, _ = self.run_command("simplify", self.given, self.out,
                                        "--step", "1", "--report")
-            self.assertIn(f"area as given: {cells}\narea before: {cells},"
+            self.assertIn(f"area as given: {cells} square units\n"
+                          f"area before: {cells} square units,"
                           f" {cells} cells of the grid\n", told)
 
     def test_holes_go_with_the_ring_around_them(self):
@@ -70,9 +73,11 @@ collapsed: feature 2, polygon 1, ring 0
         told, _ = self.run_command("simplify", self.given, self.out,
                                    "--step", "0.1", "--report",
                                    "--collapsed", "empty")
-        self.assertIn("area as given: -0.005\n"
-                      "area before: -0.005, -0.5 cells of the grid\n"
-                      "area after: 0, 0 cells of the grid\n", told)
+        self.assertIn("area as given: -0.005 square units\n"
+                      "area before: -0.005 square units, -0.5 cells of the"
+                      " grid\n"
+                      "area after: 0 square units, 0 cells of the grid\n",
+                      told)
 
     def test_a_small_parcel_far_away(self):
         x, y = 4.5e6, 5.5e6
@@ -80,7 +85,7 @@ collapsed: feature 2, polygon 1, ring 0
             [(x, y), (x + 0.3, y), (x + 0.3, y + 0.3), (x, y + 0.3)])))
         told, _ = self.run_command("simplify", self.given, self.out,
                                    "--step", "0.1", "--report")
-        area = re.search("area as given: (.*)", told)[1]
+        area = re.search("area as given: (.*) square units", told)[1]
         self.assertAlmostEqual(float(area), 0.09, places=8)
 
     def test_areas_beyond_the_floats(self):
@@ -105,11 +110,26 @@ collapsed: feature 2, polygon 1, ring 0
             "--report")
         self.assertEqual(told.count(f", {far * far} cells of the grid\n"), 2)
 
+    def test_features_that_are_kept_as_they_are(self):
+        high = {"type": "Polygon", "coordinates": [[[0, 0, 1], [1, 0, 1],
+                                                    [1, 1, 1]]]}
+        point = {"type": "Point", "coordinates": [1, 2]}
+        self.write(samples.geojson(samples.polygon(SPIKED), high, None, point))
+        for call in ("simplify", "dedup"):
+            told, _ = self.run_command(call, self.given, self.out, "--step",
+                                       "0.1", "--report", "--others", "keep")
+            self.assertIn("features with polygons: 1 before, 1 after\n", told)
+            self.assertIn("\nkept as they are: 2\n", told)
+            told, _ = self.run_command(call, self.given, self.out, "--step",
+                                       "0.1", "--report", "--others", "drop")
+            self.assertNotIn("kept", told)
+
     def test_nothing(self):
         self.write(samples.geojson())
         told, _ = self.run_command("despike", self.given, self.out,
                                    "--step", "1", "--report")
-        self.assertIn("points: 0 before, 0 after\narea as given: 0\n", told)
+        self.assertIn("points: 0 before, 0 after\n"
+                      "area as given: 0 square units\n", told)
 
     def test_progress_is_a_line_a_second(self):
         times = iter([0, 0.5, 1.0, 1.5, 2.5, 2.6])

@@ -14,7 +14,8 @@ ROUNDS = 2000
 canonical_oriented = functools.partial(i_shape.canonical, oriented=True)
 CLEANERS = (i_shape.simplify, i_shape.despike, i_shape.canonical,
             canonical_oriented)
-TESTS = (i_shape.is_simple, i_shape.has_no_spikes, i_shape.is_convex)
+TESTS = (i_shape.is_simple, i_shape.has_no_spikes, i_shape.is_convex,
+         i_shape.is_simple_polygon, i_shape.first_contact)
 
 # A contour, and its form where it may be read backwards too.
 READ_EITHER_WAY = (
@@ -133,12 +134,15 @@ class Contours(unittest.TestCase):
                     self.assertEqual(area, plain.wrapped_area(ring, dtype))
 
     def test_tests(self):
-        told = {name: set() for name in ("simple", "spikes", "convex")}
+        told = {name: set() for name in ("simple", "spikes", "convex",
+                                         "polygon")}
         for numbers, dtype, ring, points in rings_of_each_dtype():
             for name, call, loop in (
                     ("simple", i_shape.is_simple, plain.is_simple),
                     ("spikes", i_shape.has_no_spikes, plain.has_no_spikes),
-                    ("convex", i_shape.is_convex, plain.is_convex)):
+                    ("convex", i_shape.is_convex, plain.is_convex),
+                    ("polygon", i_shape.is_simple_polygon,
+                     plain.is_simple_polygon)):
                 answer = call(points)
                 self.assertIs(answer, loop(ring), (name, ring))
                 told[name].add(answer)

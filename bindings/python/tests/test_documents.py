@@ -8,26 +8,28 @@ from importlib import metadata
 from pathlib import Path
 
 import i_shape
-from i_shape import (_contours, _keys, _measures, _polygons, _rings,
-                     _windings, io)
-from i_shape.io import (_cleaners, _closing, _features, _geojson,
-                        _geoseries, _grid, _shapely, _wkb, _wkt)
+from i_shape import (_contacts, _contours, _keys, _measures, _polygons,
+                     _rings, _windings, io)
+from i_shape.io import (_cleaners, _closing, _conditions, _features,
+                        _geojson, _geoseries, _grid, _shapely, _validity,
+                        _wkb, _wkt)
 
 TOP = Path(__file__).resolve().parents[3]
 PAGE = TOP / "docs" / "PYTHON.md"
+VALIDITY = TOP / "docs" / "VALIDITY.md"
 README = TOP / "README.md"
 
 
 class Documents(unittest.TestCase):
 
     def test_the_examples_of_the_docstrings(self):
-        for module in (_contours, _rings, _polygons, _measures, _keys,
-                       _windings):
+        for module in (_contacts, _contours, _rings, _polygons, _measures,
+                       _keys, _windings):
             faults, count = doctest.testmod(module)
             self.assertEqual(faults, 0)
             self.assertGreater(count, 10)
-        for module in (_cleaners, _closing, _features, _geojson, _geoseries,
-                       _grid, _shapely, _wkb, _wkt):
+        for module in (_cleaners, _closing, _conditions, _features, _geojson,
+                       _geoseries, _grid, _shapely, _validity, _wkb, _wkt):
             faults, count = doctest.testmod(module)
             self.assertEqual(faults, 0)
             self.assertGreater(count, 1)
@@ -57,7 +59,7 @@ class Documents(unittest.TestCase):
                             (name, its.name))
 
     def test_the_examples_of_the_pages(self):
-        for path, fewest in ((PAGE, 9), (README, 5)):
+        for path, fewest in ((PAGE, 9), (README, 5), (VALIDITY, 5)):
             # A fence would be read as a line of the output before it.
             text = re.sub("^```.*$", "", path.read_text(), flags=re.MULTILINE)
             page = doctest.DocTestParser().get_doctest(

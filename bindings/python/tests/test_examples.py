@@ -54,6 +54,7 @@ class EqualPolygons(ExampleCase):
 
     name = "equal_polygons"
 
+    @samples.takes_long
     def test_keys_of_arrays_miss_no_pair(self):
         lines = self.printed("--pairs", "40")
         found = [line for line in lines if line.startswith("arrays")]
@@ -121,6 +122,56 @@ class Store(ExampleCase):
             "SELECT count(*) FROM polygons").fetchone(), (1,))
         with self.assertRaises(ValueError):
             self.opened(step=0.5)
+
+    def test_other_formats_are_refused_in_a_sentence(self):
+        folder = Path(self.path).parent
+        package, text = folder / "x.gpkg", folder / "x.wkt"
+        package.write_bytes(b"SQLite format 3\0\x10\0\xff\xfe")
+        text.write_text("POLYGON EMPTY")
+        missing = folder / "missing.geojson"
+        for path, words in ((package, "is no GeoJSON, into which `ogr2ogr"),
+                            (text, "is no GeoJSON, into which `ogr2ogr"),
+                            (missing, "No such file")):
+            given = ["store.py", self.path, str(path), "--step", "1"]
+            with mock.patch.object(sys, "argv", given), \
+                    self.assertRaises(SystemExit) as ended:
+                self.example.main()
+            self.assertRegex(str(ended.exception.code),
+                             rf"\Astore\.py: .*{words}")
+            self.assertIn(str(path), str(ended.exception.code))
+
+
+class Theorem(ExampleCase):
+
+    name = "theorem"
+
+    def test_no_contour_contradicts_it(self):
+        lines = self.printed("--random", "200")
+        self.assertEqual(lines[0], "7580 contours")
+        self.assertEqual({line.rpartition(": ")[2] for line in lines[1:]},
+                         {"0"})
+
+    def test_a_call_that_returns_what_another_does_is_found(self):
+        ring = ((4, 4), (0, 4), (0, 0), (2, 0), (4, 0), (4, 2), (4, 0))
+        for name, other, part in (
+                ("simplify", i_shape.despike_rings, "simplify isn't"),
+                ("despike", i_shape.simplify_rings, "despike isn't"),
+                ("canonical", i_shape.simplify_rings, "canonical isn't")):
+            def wrong(points, offsets, its=other, **_words):
+                return its(points, offsets)
+            with mock.patch.object(i_shape, f"{name}_rings", wrong):
+                found = self.example.faults([ring])
+            faulty = [its for its, count in found.items() if count]
+            with self.subTest(name):
+                self.assertEqual(len(faulty), 1, faulty)
+                self.assertTrue(faulty[0].startswith(part), faulty)
+
+    def test_another_area_is_found(self):
+        def backwards(points, offsets):
+            return i_shape.Rings(points[::-1].copy(), np.array(offsets))
+        with mock.patch.object(i_shape, "despike_rings", backwards):
+            found = self.example.faults([((0, 0), (2, 0), (0, 2))])
+        self.assertEqual(found["despike changes area or winding numbers"], 1)
 
 
 class Parcels(ExampleCase):

@@ -503,6 +503,56 @@ class OfGdal(GeoPackageCase):
         self.assertEqual(rows, [(1,)])
         self.assertFalse(os.path.exists(f"{self.out}-journal"))
 
+    def test_a_second_run(self):
+        """In place no byte changes; SQLite counts what replaces a file."""
+        self.fill(SPIKED_BLOB, SQUARE_BLOB)
+        words = "--step", "0.1"
+        self.run_command("simplify", self.given, self.given, *words)
+        before = self.bytes_of_files()
+        self.run_command("simplify", self.given, self.given, *words)
+        self.assertEqual(self.bytes_of_files(), before)
+        for _ in range(2):
+            self.run_command("simplify", self.given, self.out, *words)
+        counted = [place for place, (one, other) in enumerate(
+            zip(self.given.read_bytes(), self.out.read_bytes()))
+            if one != other]
+        self.assertTrue(set(counted) <= {*range(24, 28), *range(40, 44),
+                                         *range(92, 96)}, counted)
+
+    def by_gdal(self, *words):
+        return subprocess.run(list(map(str, words)), check=True, text=True,
+                              capture_output=True).stdout
+
+    def test_areas_of_degrees_and_of_metres(self):
+        document = self.write(samples.geojson(samples.polygon(SPIKED)))
+        for srs, unit in (("EPSG:4326", "degrees"), ("EPSG:25832", "units")):
+            self.given.unlink(missing_ok=True)
+            self.by_gdal("ogr2ogr", "-f", "GPKG", self.given, document,
+                         "-a_srs", srs, "-nln", "parcels")
+            told, _ = self.run_command("despike", self.given, self.out,
+                                       "--step", "0.1", "--report")
+            self.assertIn(f"\narea as given: 0.16 square {unit}\n", told)
+            self.assertIn(f"\narea after: 0.16 square {unit}, 16 cells", told)
+
+    def test_a_shapefile_by_way_of_a_package(self):
+        """The road that the page and the error name."""
+        metres = [(500000 + 10 * x, 5400000 + 10 * y) for x, y in SPIKED]
+        document = self.write(samples.geojson(samples.polygon(metres)))
+        given, cleaned = (self.folder / name
+                          for name in ("parcels.shp", "cleaned.shp"))
+        self.by_gdal("ogr2ogr", given, document, "-a_srs", "EPSG:25832")
+        package = self.folder / "parcels.gpkg"
+        self.by_gdal("ogr2ogr", package, given)
+        self.run_command("despike", package, package, "--step", "0.001")
+        self.by_gdal("ogr2ogr", cleaned, package)
+        before, after = (self.by_gdal("ogrinfo", "-al", path)
+                         for path in (given, cleaned))
+        for path, told, points in ((given, before, 8), (cleaned, after, 6)):
+            self.assertIn("ETRS89 / UTM zone 32N", told)
+            shape, = [line for line in told.splitlines() if "POLYGON" in line]
+            self.assertEqual(shape.count(",") + 1, points, path)
+            self.assertRegex(shape, r"500005(\.0)? 5400000(\.0)?")
+
 
 if __name__ == "__main__":
     unittest.main()

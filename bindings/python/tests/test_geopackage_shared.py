@@ -12,6 +12,7 @@ import time
 import unittest
 from unittest import mock
 
+import samples
 from i_shape._command import geopackage
 from test_geopackage import (FLAT_BLOB, HIGH_BLOB, POINT, SPIKED_BLOB,
                              SQUARE_BLOB, GeoPackageCase, without_progress)
@@ -122,6 +123,7 @@ class SharedCase(GeoPackageCase):
             other.close()
 
 
+@samples.takes_long
 class Shared(SharedCase):
 
     def test_another_is_idle_and_commits_afterwards(self):
@@ -289,6 +291,7 @@ class Shared(SharedCase):
                 picture.unlink()
 
 
+@samples.takes_long
 class Ended(SharedCase):
 
     def run_hostile(self, hostile, out, *signals):
@@ -308,10 +311,10 @@ class Ended(SharedCase):
                 raise
         return run.returncode, told[0], without_progress(told[1])
 
-    def assert_ended(self, hostile, *signals):
+    def assert_ended(self, hostile, *signals, in_place=True):
         """Signals end it, and each file is as it was."""
         for out, is_there in ((self.out, False), (self.out, True),
-                              (self.given, True)):
+                              (self.given, True))[:2 + in_place]:
             for number in signals or (signal.SIGTERM,):
                 with self.subTest(out=out.name, number=number):
                     self.begin("delete", out if is_there else self.given)
@@ -353,6 +356,23 @@ class Ended(SharedCase):
             geopackage._is_empty = end
         """))
 
+    def test_a_signal_while_a_file_is_copied(self):
+        """It ends the run after some pages, not after the last one."""
+        self.assert_ended(textwrap.dedent("""
+            geopackage._PAGES = 5
+            class Ending(geopackage.sqlite3.Connection):
+                def backup(self, goal, progress, **options):
+                    def ask(status, left, pages):
+                        if 0 < left < pages:
+                            signal.raise_signal({})
+                        progress(status, left, pages)
+                    super().backup(goal, progress=ask, **options)
+            connect = geopackage.sqlite3.connect
+            geopackage.sqlite3.connect = (
+                lambda *words, **options: connect(
+                    *words, factory=Ending, **options))
+        """), in_place=False)
+
     def test_a_trigger_that_fills_the_disk(self):
         self.change("CREATE TABLE other (bytes)")
         self.change("CREATE TRIGGER other AFTER UPDATE ON parcels BEGIN"
@@ -383,7 +403,7 @@ class Ended(SharedCase):
                     path = goal.execute("PRAGMA database_list").fetchone()[2]
                     def ask(*words):
                         if (path.endswith("/{self.out.name}")
-                                and ".part" not in path
+                                and ".i_shape-" not in path
                                 and words[1] < words[2] / 2):
                             {kill}
                         progress(*words)

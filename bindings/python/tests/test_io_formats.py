@@ -219,6 +219,7 @@ class GeoJSON(FormatCase):
                  "(-inf, 0.0), and not finite", 2, 1, 1, 1)):
             self.assert_fails(io.from_geojson, document, words, *place)
 
+    @samples.takes_long
     def test_a_million_holes(self):
         hole = [[1, 1], [1, 2], [2, 1], [1, 1]]
         document = {"type": "Polygon", "coordinates": [

@@ -343,6 +343,27 @@ class Cleaners(unittest.TestCase):
                     self.assertEqual(one, [rings[c:d]
                                            for c, d in zip(ends, ends[1:])])
 
+    def test_the_conditions_are_those_of_each_ring(self):
+        calls = ((io.is_simple_features, i_shape.is_simple,
+                  io.simplify_features),
+                 (io.has_no_spikes_features, i_shape.has_no_spikes,
+                  io.despike_features))
+        for dtype in plain.DTYPES:
+            numbers = random.Random(10)
+            for _ in range(150):
+                given = self.random_features(numbers, dtype)
+                features = samples.arrays(given, dtype)
+                for call, one, cleaner in calls:
+                    right = [all(one(plain.array(ring, dtype))
+                                 for rings in polygons for ring in rings)
+                             for _, polygons in given]
+                    for threads in (1, 3):
+                        told = call(features, threads=threads)
+                        self.assertEqual(told.tolist(), right)
+                        self.assertEqual(told.dtype, np.bool_)
+                    left = cleaner(features, collapsed="empty")
+                    self.assertTrue(call(left).all())
+
     def test_what_is_given_stays(self):
         features = samples.arrays(
             [(True, [[samples.SQUARE[::-1], samples.SQUARE, samples.SQUARE],

@@ -4,6 +4,7 @@ import io as text_io
 import random
 import unittest
 
+import samples
 from i_shape._command import geojson
 
 VALUES = ["0", "-15", "1.25", "12e5", "1E-7", "true", "null", '"\\ud83d\\ude00"',
@@ -74,6 +75,7 @@ def read_of(file):
 
 class Pieces(unittest.TestCase):
 
+    @samples.takes_long
     def test_a_document_means_the_same_wherever_a_piece_ends(self):
         maker = Maker(65)
         for _ in range(1000):

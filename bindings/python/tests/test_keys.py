@@ -290,7 +290,7 @@ class SameRings(unittest.TestCase):
                                       (False, plain.canonical_unoriented)):
                 ours, theirs = ([of_ring(ring, numbers) for ring in rings]
                                 for rings in pair)
-                right = [theirs.index(its) if its in theirs else -1
+                right = [theirs.index(its) if its and its in theirs else -1
                          for its in ours]
                 told = i_shape.same_rings(
                     plain.flat(pair[0], np.int16),

@@ -2,6 +2,7 @@
 
 import json
 import os
+import re
 import shutil
 import subprocess
 import tempfile
@@ -67,9 +68,15 @@ class Layout(unittest.TestCase):
                 self.assertRegex(told, words)
             left = self.rings(told=out)
             self.assertEqual(set(left), set(compressed))
+            gone = re.findall(r"^gone: cell (\S+), layer (\d+)/0, box (.*)$",
+                              told, re.MULTILINE)
             for place, rings in compressed.items():
-                kept = [ring for ring in rings if ring]
-                self.assertLess(len(kept), len(rings))
+                kept = [ring for ring in rings if isinstance(ring, list)]
+                boxes = [box for box in rings if isinstance(box, str)]
+                self.assertTrue(boxes)
+                self.assertEqual(
+                    sorted(box for cell, layer, box in gone
+                           if f"{cell} {layer}" == place), sorted(boxes))
                 self.assertTrue(all(map(is_clean, left[place])))
                 forms = sorted(map(form, left[place]))
                 wanted = sorted(map(form, kept))

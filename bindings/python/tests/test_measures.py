@@ -17,6 +17,8 @@ TESTS = (
     (i_shape.is_simple_rings, i_shape.is_simple, plain.is_simple),
     (i_shape.has_no_spikes_rings, i_shape.has_no_spikes, plain.has_no_spikes),
     (i_shape.is_convex_rings, i_shape.is_convex, plain.is_convex),
+    (i_shape.are_simple_polygons, i_shape.is_simple_polygon,
+     plain.is_simple_polygon),
 )
 OF_SAFE_POINTS = [many for many, _, _ in TESTS]
 OF_ANY_POINTS = [i_shape.is_safe_rings, i_shape.area_two_rings]
@@ -113,7 +115,7 @@ class Answers(unittest.TestCase):
                     told = many(np.ones((3, 2), dtype), offsets, threads=4)
                     self.assertEqual(told.shape, (0,))
             nothing = plain.array([], dtype)
-            for many, answer in zip(CALLS, (False, False, True, True, 0)):
+            for many, answer in zip(CALLS, (False, False, True, False, True, 0)):
                 self.assertEqual(many(nothing, [0, 0, 0]).tolist(),
                                  [answer] * 2)
 

@@ -7,15 +7,17 @@ calls of the C library below answer is proved; this package around them is
 tested.
 """
 
+from ._contacts import (Fault, first_contact, first_contact_of_rings,
+                        polygon_validity)
 from ._contours import (area_two, canonical, contains, despike,
                         has_no_spikes, is_convex, is_safe, is_simple,
-                        simplify)
+                        is_simple_polygon, simplify)
 from ._errors import OffsetsError, UnsafePointError
 from ._keys import canonical_keys, same_rings
 from ._library import version
-from ._measures import (area_two_polygons, area_two_rings,
-                        has_no_spikes_rings, is_convex_rings, is_safe_rings,
-                        is_simple_rings)
+from ._measures import (are_simple_polygons, area_two_polygons,
+                        area_two_rings, has_no_spikes_rings,
+                        is_convex_rings, is_safe_rings, is_simple_rings)
 from ._polygons import (Polygons, canonical_polygons, despike_polygons,
                         same_polygons, simplify_polygons)
 from ._rings import Rings, canonical_rings, despike_rings, simplify_rings
@@ -23,12 +25,14 @@ from ._windings import (contains_points, locate, winding_number,
                         winding_numbers)
 
 __all__ = [
-    "OffsetsError", "Polygons", "Rings", "UnsafePointError",
-    "area_two", "area_two_polygons", "area_two_rings", "canonical",
-    "canonical_keys", "canonical_polygons", "canonical_rings", "contains",
-    "contains_points", "despike", "despike_polygons", "despike_rings",
+    "Fault", "OffsetsError", "Polygons", "Rings", "UnsafePointError",
+    "are_simple_polygons", "area_two", "area_two_polygons", "area_two_rings",
+    "canonical", "canonical_keys", "canonical_polygons", "canonical_rings",
+    "contains", "contains_points", "despike", "despike_polygons",
+    "despike_rings", "first_contact", "first_contact_of_rings",
     "has_no_spikes", "has_no_spikes_rings", "is_convex", "is_convex_rings",
-    "is_safe", "is_safe_rings", "is_simple", "is_simple_rings", "locate",
+    "is_safe", "is_safe_rings", "is_simple", "is_simple_polygon",
+    "is_simple_rings", "locate", "polygon_validity",
     "same_polygons", "same_rings", "simplify", "simplify_polygons",
     "simplify_rings", "winding_number", "winding_numbers",
 ]

@@ -2,6 +2,7 @@
 
 What is read are files of GeoJSON or WKT, or GeoPackages, some features at a
 time; their floats are rounded onto a grid, cleaned there, and brought back.
+Or they are only tested: ``python -m i_shape check IN --step S``.
 """
 
 from __future__ import annotations
@@ -18,7 +19,7 @@ from contextlib import ExitStack, suppress
 from pathlib import Path
 from typing import Any, Iterable, NoReturn, Optional, Sequence
 
-from ._command import decimals, dedup, files, plot, report
+from ._command import check, decimals, dedup, files, plot, report
 from ._command.report import Told
 from ._command.tally import Tally
 from ._library import version
@@ -29,14 +30,19 @@ from .io._cleaners import Cleaned, Cleaner, clean, forms
 _CLEANERS: dict[str, Cleaner] = {
     "simplify": simplify_rings, "despike": despike_rings}
 _PICTURES = ("pdf", "png", "svg")
+_SHAPEFILE = (
+    "; clean a shapefile as a GeoPackage: ogr2ogr x.gpkg IN.shp && i_shape"
+    " despike x.gpkg x.gpkg --step S && ogr2ogr OUT.shp x.gpkg (GeoJSONSeq"
+    " would turn its coordinates into degrees)")
 _signals: list[int] = []  # the one that ends the program, if any
 
 
 def _file(text: str) -> Path:
     path = Path(text)
     if files.format_of(path) is None:
+        way = _SHAPEFILE if path.suffix.lower() in (".shp", ".shz") else ""
         raise argparse.ArgumentTypeError(
-            f"{text} doesn't end in one of {', '.join(files.FORMATS)}")
+            f"{text} doesn't end in one of {', '.join(files.FORMATS)}{way}")
     return path
 
 
@@ -50,27 +56,37 @@ def _picture(text: str) -> Path:
     return path
 
 
+def _json(text: str) -> Path:
+    path = Path(text)
+    if files.format_of(path) != "GeoJSON":
+        raise argparse.ArgumentTypeError(
+            f"{text} doesn't end in one of .geojson, .json")
+    return path
+
+
 def _parser() -> argparse.ArgumentParser:
     is_script = Path(sys.argv[0]).stem == "i_shape"
     parser = argparse.ArgumentParser(
         prog="i_shape" if is_script else "python -m i_shape",
-        description="Cleans the polygons of a file on a grid. Properties"
-        " stay. OUT is written whole or not at all.")
+        description="Cleans the polygons of a file on a grid, or tests"
+        " whether they are valid. Properties stay. OUT is written whole or"
+        " not at all.")
     # -1e6 is a number too, and no option begins with a digit.
     parser._negative_number_matcher = re.compile(r"-\.?\d")
     parser.add_argument(
-        "call", choices=[*_CLEANERS, "canonical", "dedup"],
+        "call", choices=[*_CLEANERS, "canonical", "dedup", "check"],
         help="what is removed: points on straight edges, repeated points and"
         " spikes; repeated points and spikes alone; or the first, with each"
         " feature in its canonical form; or features whose form is that of"
-        " one before, and nothing else")
+        " one before, and nothing else; check prints a line for each feature"
+        " that isn't valid, takes no OUT, and has status 1 if there is one")
     parser.add_argument("given", metavar="IN", type=_file,
                         help="a file of GeoJSON (.geojson, .json), of a"
                         " feature of it a line (.geojsonl, .geojsons,"
                         " .ndjson, .jsonl, or - for standard input), of WKT"
                         " with a geometry a line (.wkt), or a GeoPackage"
                         " (.gpkg)")
-    parser.add_argument("out", metavar="OUT", type=_file,
+    parser.add_argument("out", metavar="OUT", type=_file, nargs="?",
                         help="the file to write; it may be IN, and - is"
                         " standard output")
     parser.add_argument("--step", type=float, required=True,
@@ -98,6 +114,10 @@ def _parser() -> argparse.ArgumentParser:
                         help="print what was removed and what collapsed, and"
                         " the areas before and after, or which features went"
                         " and which they equal")
+    parser.add_argument("--to", metavar="FILE", type=_json,
+                        help="check: write points of the faults to a file of"
+                        " GeoJSON, in the coordinates of IN, with the fid of"
+                        " the feature and the reason")
     parser.add_argument("--plot", metavar="FILE", type=_picture,
                         help="draw the rings before and after, by"
                         " matplotlib: .svg, .png or .pdf")
@@ -106,14 +126,38 @@ def _parser() -> argparse.ArgumentParser:
     return parser
 
 
+def _are_same(one: Path, other: Path) -> bool:
+    """Whether two paths name one file that is there."""
+    return one.exists() and other.exists() and one.samefile(other)
+
+
+def _check_fault(options: argparse.Namespace) -> Optional[str]:
+    """What isn't for check in the words."""
+    if options.out:
+        return "check writes no OUT: --to FILE is for points of the faults"
+    if options.to and _are_same(options.given, options.to):
+        return "--to FILE is IN, which stays"
+    is_given = {"--report": options.report, "--plot": options.plot,
+                "--oriented": options.oriented,
+                "--collapsed": options.collapsed != "error"}
+    others = [name for name, value in is_given.items() if value]
+    return f"{others[0]} isn't for check" if others else None
+
+
 def _fault(options: argparse.Namespace) -> Optional[str]:
     """What doesn't fit together in the words."""
-    given, out = map(files.format_of, (options.given, options.out))
-    is_package = given == files.GEOPACKAGE
-    if (out == files.GEOPACKAGE) != is_package:
-        return "a GeoPackage is written of a GeoPackage, and of nothing else"
+    is_package = files.format_of(options.given) == files.GEOPACKAGE
     if options.layer and not is_package:
         return "--layer is for GeoPackages"
+    if options.call == "check":
+        return _check_fault(options)
+    if options.to:
+        return "--to is for check"
+    if not options.out:
+        return "the following arguments are required: OUT"
+    given, out = map(files.format_of, (options.given, options.out))
+    if (out == files.GEOPACKAGE) != is_package:
+        return "a GeoPackage is written of a GeoPackage, and of nothing else"
     if options.others == "keep" and (given == "WKT") != (out == "WKT"):
         return "--others keep doesn't turn GeoJSON into WKT, nor WKT into it"
     if options.oriented and options.call not in ("canonical", "dedup"):
@@ -128,7 +172,8 @@ def _fault(options: argparse.Namespace) -> Optional[str]:
 
 def _options(words: Optional[Sequence[str]]) -> argparse.Namespace:
     parser = _parser()
-    options = parser.parse_args(words)
+    # Else an OUT behind an option would be none, since it may be left out.
+    options = parser.parse_intermixed_args(words)
     try:
         x, y = options.origin
         options.grid = Grid(options.step, (x, y))
@@ -149,7 +194,8 @@ def _cleaned(whole: Features, options: argparse.Namespace) -> Cleaned:
 def _clean(pair: files.Pair, options: argparse.Namespace,
            picture: plot.Picture) -> Told:
     """Clean the features, and answer what is told of that."""
-    told, tally = report.Cleaning(options.grid), Tally()
+    unit = pair.area_unit if options.report else ""
+    told, tally = report.Cleaning(options.grid, unit), Tally()
     for block in pair.blocks():
         with block.naming():
             whole = features_to_grid(block.features, options.grid)
@@ -178,8 +224,22 @@ def _print(lines: Iterable[str], is_beside: bool) -> None:
     stream.flush()
 
 
-def _run(options: argparse.Namespace) -> str:
+def _check(options: argparse.Namespace) -> Told:
+    """Test the features, and return what is told of those with faults."""
+    with ExitStack() as last:
+        pair = last.enter_context(files.opened_to_read(
+            options.given, options.others, options.layer))
+        beside = options.to and last.enter_context(
+            files.replacing(options.to))
+        told = check.run(pair, options.grid, beside)
+        _print(told.lines, False)
+    return told
+
+
+def _run(options: argparse.Namespace) -> Told:
     """Do what the words ask for, and answer what is said at the end."""
+    if options.call == "check":
+        return _check(options)
     picture = plot.Picture()
     with files.opened(
             options.given, options.out, options.others, options.layer,
@@ -194,20 +254,21 @@ def _run(options: argparse.Namespace) -> str:
             picture.draw(beside, options.plot.suffix[1:].lower())
         if options.report:
             _print(told.lines, options.out == files.STANDARD)
-    return told.last
+    return told
 
 
 def main(words: Optional[Sequence[str]] = None) -> int:
     """Run the command, and return its status.
 
     It is 0 where all went well, 1 after an error, which is told of on
-    standard error, and 130 where it was interrupted. Words that aren't
-    understood end the program with 2. OUT is replaced last, and then a line
-    on standard error says how many features changed.
+    standard error, or where check finds a feature that isn't valid, and 130
+    where it was interrupted. Words that aren't understood end the program
+    with 2. OUT is replaced last, and then a line on standard error says how
+    many features changed, or aren't valid.
     """
     options = _options(words)
     try:
-        last = _run(options)
+        told = _run(options)
     except OSError as error:
         # SQLite makes an error of its own of what ends a function of ours.
         return 128 + _signals[0] if _signals else _told(str(error))
@@ -217,7 +278,7 @@ def main(words: Optional[Sequence[str]] = None) -> int:
         return _told(f"{options.given}: there is not enough memory")
     except KeyboardInterrupt:
         return 130
-    return _told(last, 0)
+    return _told(told.last, told.status)
 
 
 def _told(text: str, status: int = 1) -> int:

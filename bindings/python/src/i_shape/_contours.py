@@ -301,6 +301,39 @@ def is_convex(points: npt.NDArray[Int]) -> bool:
     return _test("is_convex", points)
 
 
+def is_simple_polygon(points: npt.NDArray[Int]) -> bool:
+    """Return whether the contour is the boundary of a simple polygon.
+
+    It has at least three points, not all equal, and no two of its edges are
+    in contact: see :func:`first_contact`. Points at which it goes straight
+    on are allowed, unlike by :func:`is_simple`.
+
+    Parameters
+    ----------
+    points : array of shape (n, 2), int16, int32 or int64
+        The contour, as for :func:`simplify`.
+
+    Returns
+    -------
+    bool
+
+    Raises
+    ------
+    UnsafePointError, TypeError, ValueError
+        As :func:`simplify` does.
+
+    Examples
+    --------
+    >>> import numpy as np
+    >>> from i_shape import is_simple_polygon
+    >>> is_simple_polygon(np.array([(0, 0), (2, 0), (4, 0), (4, 4)]))
+    True
+    >>> is_simple_polygon(np.array([(0, 0), (4, 4), (4, 0), (0, 4)]))
+    False
+    """
+    return _test("is_simple_polygon", points)
+
+
 def is_safe(points: npt.NDArray[Int]) -> bool:
     """Return whether each point is safe, as cleaners and tests ask.
 

@@ -186,7 +186,7 @@ def same_rings(a: Pair, b: Pair, *, oriented: bool = False,
 
     Rings are the same where their unoriented forms are equal, or with
     ``oriented`` their canonical forms, as :func:`canonical_rings` returns
-    them. A ring that collapses leaves nothing, so all these are the same.
+    them. A ring that collapses leaves nothing to compare: none is the same.
 
     Parameters
     ----------
@@ -223,5 +223,6 @@ def same_rings(a: Pair, b: Pair, *, oriented: bool = False,
     places: dict[bytes, int] = {}
     for place, key in enumerate(_keys_of_rings(theirs)):
         places.setdefault(key, place)
+    places.pop(b"", None)
     return np.fromiter((places.get(key, -1) for key in _keys_of_rings(ours)),
                        np.intp, len(ours.offsets) - 1)

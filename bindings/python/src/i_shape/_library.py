@@ -1,4 +1,4 @@
-"""The calls of libi_shape.so, and the arrays that are handed to them.
+"""The calls of the C library, and the arrays that are handed to them.
 
 Nothing here trusts an array: each is tested for its dtype and shape. Points
 are copied where the library could not read them as they lie, offsets always.
@@ -9,6 +9,7 @@ from __future__ import annotations
 import ctypes
 import operator
 import os
+import sys
 from concurrent.futures import ThreadPoolExecutor
 from pathlib import Path
 from typing import (Any, Callable, Literal, NamedTuple, NoReturn, Optional,
@@ -48,12 +49,18 @@ def _has_v2() -> bool:
     return {"cx16", "lahf_lm", "popcnt", "sse4_2", "ssse3"} <= {*flags.split()}
 
 
+def _name() -> str:
+    """The name of the file, as cargo gives it on this system."""
+    names = {"darwin": "libi_shape.dylib", "win32": "i_shape.dll"}
+    return names.get(sys.platform, "libi_shape.so")
+
+
 def _path() -> Path:
     folder = os.environ.get("I_SHAPE_C_DIR")
     faster = Path(__file__).with_name("libi_shape-v2.so")
     if not folder and faster.exists() and _has_v2():
         return faster
-    return Path(folder or faster.parent, "libi_shape.so").resolve()
+    return Path(folder or faster.parent, _name()).resolve()
 
 
 def _load() -> ctypes.CDLL:
@@ -89,6 +96,9 @@ class Calls(NamedTuple):
     windings: Any
     contains_points: Any
     locate: Any
+    first_contact: Any
+    first_contact_of_rings: Any
+    validity_shapes: Any
     area_two: Any
     areas: Any
     area: Any
@@ -115,10 +125,12 @@ def _calls(bits: int, number: Any, area: Any) -> Calls:
                               ctypes.c_ssize_t, *array * 6)
                   for name in cleaners},
         test={name: _call(f"i_shape_{name}_i{bits}", ctypes.c_int32, *array)
-              for name in tests},
-        test_many={name: _call(f"i_shape_{name}_contours_i{bits}",
-                               ctypes.c_int32, *array * 3)
-                   for name in tests},
+              for name in (*tests, "is_simple_polygon")},
+        test_many={name: _call(f"i_shape_{many}_i{bits}", ctypes.c_int32,
+                               *array * 3)
+                   for name, many in (
+                       *((name, f"{name}_contours") for name in tests),
+                       ("is_simple_polygon", "are_simple_polygons"))},
         first_unsafe=_call(f"i_shape_first_unsafe_i{bits}", ctypes.c_size_t,
                            *array),
         contains=_call(f"i_shape_contains_by_i{bits}", ctypes.c_int32, *array,
@@ -132,6 +144,13 @@ def _calls(bits: int, number: Any, area: Any) -> Calls:
                               *array),
         locate=_call(f"i_shape_locate_i{bits}", ctypes.c_int32, *array * 3,
                      ctypes.c_int32, *array),
+        first_contact=_call(f"i_shape_first_contact_i{bits}",
+                            ctypes.c_int32, *array * 2),
+        first_contact_of_rings=_call(
+            f"i_shape_first_contact_of_rings_i{bits}", ctypes.c_int32,
+            *array * 3),
+        validity_shapes=_call(f"i_shape_validity_shapes_i{bits}",
+                              ctypes.c_int32, *array * 4),
         area_two=_call(f"i_shape_area_two_i{bits}", ctypes.c_bool, *array,
                        ctypes.POINTER(area)),
         areas=_call(f"i_shape_area_two_contours_i{bits}", ctypes.c_int32,

@@ -159,6 +159,42 @@ def is_convex_rings(points: npt.NDArray[Int], offsets: npt.ArrayLike, *,
     return _test_rings("is_convex", points, offsets, threads)
 
 
+def are_simple_polygons(points: npt.NDArray[Int], offsets: npt.ArrayLike, *,
+                        threads: int = 1) -> npt.NDArray[np.bool_]:
+    """Return which rings are the boundary of a simple polygon.
+
+    Each ring is tested by itself. :func:`first_contact_of_rings` compares
+    the edges of several.
+
+    Parameters
+    ----------
+    points : array of shape (n, 2), int16, int32 or int64
+    offsets : array of shape (m + 1,), of whole numbers
+    threads : int
+        As for :func:`is_simple_rings`.
+
+    Returns
+    -------
+    array of shape (m,) and dtype bool
+        For each ring what :func:`is_simple_polygon` answers, in order.
+
+    Raises
+    ------
+    OffsetsError, UnsafePointError, TypeError, ValueError, MemoryError
+        As :func:`is_simple_rings` does.
+
+    Examples
+    --------
+    >>> import numpy as np
+    >>> from i_shape import are_simple_polygons
+    >>> points = np.array([(0, 0), (4, 0), (4, 4),
+    ...                    (0, 0), (4, 4), (4, 0), (0, 4)])
+    >>> are_simple_polygons(points, [0, 3, 7]).tolist()
+    [True, False]
+    """
+    return _test_rings("is_simple_polygon", points, offsets, threads)
+
+
 def is_safe_rings(points: npt.NDArray[Int], offsets: npt.ArrayLike, *,
                   threads: int = 1) -> npt.NDArray[np.bool_]:
     """Return of which rings each point is safe, as cleaners and tests ask.

@@ -167,7 +167,9 @@ def winding_numbers(contours: Contours[Int], about: npt.NDArray[Int], *,
     >>> winding_numbers(both, np.array([(1, 1), (4, 4), (9, 9)])).tolist()
     [1, 0, 0]
     """
-    return _tell("windings", contours, about, (), np.intp, threads)
+    numbers: npt.NDArray[np.intp] = _tell(
+        "windings", contours, about, (), np.intp, threads)
+    return numbers
 
 
 def contains_points(contours: Contours[Int], about: npt.NDArray[Int], *,

@@ -14,19 +14,31 @@ _LARGEST = 1 << 22  # characters or bytes of a block's records
 Read = Callable[[Builder, Any], None]
 
 
+def _way_of(error: OtherGeometryError) -> str:
+    """What to do about a feature that isn't taken."""
+    flat = ("; `ogr2ogr -dim XY` drops heights and measures"
+            if error.has_more else "")
+    return f"; --others keep or --others drop allows it{flat}"
+
+
 class Record(NamedTuple):
     """A feature of a text, whose coordinates stand in what is about them.
 
     Where there are none to be replaced, all is before them. ``geometry`` is
-    what the format's reader takes, and None where there is none.
+    what the format's reader takes, and None where there is none. ``fid``
+    counts the features from 0 on.
     """
 
-    name: str
+    fid: int
     geometry: Any
     before: str
     coordinates: str = ""
     behind: str = ""
     line: Optional[int] = None
+
+    @property
+    def name(self) -> str:
+        return f"feature {self.fid}"
 
     @property
     def place(self) -> str:
@@ -59,6 +71,13 @@ class Block:
         self.features = self._builder.features()
 
     @property
+    def kept(self) -> int:
+        """How many records have a geometry that stays as it is."""
+        return sum(not has_polygons and record.geometry is not None
+                   for record, has_polygons
+                   in zip(self.records, self.have_polygons))
+
+    @property
     def polygon_records(self) -> list[Any]:
         """The records of the features, in their order."""
         return [record for record, has_polygons
@@ -72,7 +91,8 @@ class Block:
                 read(self._builder, record.geometry)
             except OtherGeometryError as error:
                 if others == "error":
-                    raise ValueError(error.named(record.place)) from None
+                    raise ValueError(error.named(record.place)
+                                     + _way_of(error)) from None
                 self._builder.leave_out()
                 has_polygons = False
             except FeatureError as error:

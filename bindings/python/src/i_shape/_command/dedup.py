@@ -5,13 +5,13 @@ from __future__ import annotations
 import hashlib
 from ..io import Grid, feature_keys, features_to_grid
 from .files import Pair
-from .report import Told
+from .report import Told, kept_text
 
 
 def run(pair: Pair, grid: Grid, oriented: bool) -> Told:
     """Leave out features that equal one before, and answer the report."""
     firsts: dict[tuple[str, bytes], str] = {}
-    count = 0
+    count = kept = 0
     gone: list[str] = []
     for block in pair.blocks():
         with block.naming():
@@ -27,7 +27,9 @@ def run(pair: Pair, grid: Grid, oriented: bool) -> Told:
                 its.add(place)
                 gone.append(f"gone: {record.name}, equal to {first}")
         count += len(keys)
+        kept += block.kept
         pair.write(block, gone=its)
     return Told([f"features with polygons: {count} before,"
-                 f" {count - len(gone)} after", *gone],
+                 f" {count - len(gone)} after",
+                 *([kept_text(kept)] if kept else []), *gone],
                 f"{len(gone)} of {count} features dropped")

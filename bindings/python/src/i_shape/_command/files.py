@@ -14,7 +14,7 @@ from pathlib import Path
 from typing import (Any, BinaryIO, ContextManager, Iterator, Optional,
                     Sequence, TextIO, Union)
 
-from .geopackage import (GeoPackage, created, in_place, replaced,
+from .geopackage import (GeoPackage, created, in_place, only_read, replaced,
                          require_closed)
 from .text_files import TextPair
 
@@ -82,9 +82,13 @@ def _copy(beside: Path, path: Path) -> None:
 
 
 @contextmanager
-def _hidden_folder(parent: Optional[Path]) -> Iterator[Path]:
-    """A folder that only the user can look into, and that goes again."""
-    folder = tempfile.TemporaryDirectory(".part", ".", parent)
+def _hidden_folder(parent: Optional[Path], name: str) -> Iterator[Path]:
+    """A folder that only the user can look into, and that goes again.
+
+    It is named after the file, for who finds what a killed run has left.
+    """
+    beginning = f".{name[:50]}.i_shape-"
+    folder = tempfile.TemporaryDirectory(None, beginning, parent)
     try:
         yield Path(folder.name)
     finally:
@@ -109,7 +113,8 @@ def replacing(path: Path) -> Iterator[Path]:
     if path != STANDARD and path.is_dir():
         raise IsADirectoryError(errno.EISDIR, os.strerror(errno.EISDIR),
                                 str(path))
-    with _hidden_folder(goal.parent if is_replaced else None) as folder:
+    parent = goal.parent if is_replaced else None
+    with _hidden_folder(parent, goal.name) as folder:
         beside = folder / goal.name
         yield beside
         if is_replaced:
@@ -140,7 +145,7 @@ def _making(path: Path) -> Iterator[Path]:
     """
     require_closed(path)
     goal = Path(os.path.realpath(path))
-    with _hidden_folder(goal.parent) as folder:
+    with _hidden_folder(goal.parent, goal.name) as folder:
         beside = folder / goal.name
         yield beside
         _store(beside)
@@ -158,7 +163,7 @@ def _package(given: Path, out: Path, others: str, layers: Sequence[str],
         return last.enter_context(in_place(out, *words))
     if out.is_file():
         goal = Path(os.path.realpath(out))
-        folder = last.enter_context(_hidden_folder(goal.parent))
+        folder = last.enter_context(_hidden_folder(goal.parent, goal.name))
         return last.enter_context(
             replaced(given, folder / goal.name, out, *words))
     placed = replacing if out.exists() else _making
@@ -180,3 +185,18 @@ def opened(given: Path, out: Path, others: str, layers: Sequence[str],
         text = last.enter_context(_given_text(given))
         file = last.enter_context(open(beside, "w", encoding="utf-8"))
         yield TextPair(text, given_format, file, out_format, others, places)
+
+
+@contextmanager
+def opened_to_read(given: Path, others: str,
+                   layers: Sequence[str]) -> Iterator[Pair]:
+    """What is read, where nothing is written."""
+    given_format = format_of(given)
+    assert given_format
+    if given_format == GEOPACKAGE:
+        with only_read(given, others, layers) as package:
+            yield package
+        return
+    with _given_text(given) as text:
+        yield TextPair(text, given_format, standard_io.StringIO(),
+                       given_format, others, None)

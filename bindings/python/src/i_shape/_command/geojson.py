@@ -20,22 +20,22 @@ _COORDINATES = re.compile(_NAME + r'[ \t\n\r]*:[ \t\n\r]*'
 FEATURE = '{"type": "Feature", "properties": null, "geometry": ', "}"
 
 
-def _geometry_record(name: str, geometry: Members, before: str = "",
+def _geometry_record(fid: int, geometry: Members, before: str = "",
                      behind: str = "", line: Optional[int] = None) -> Record:
     """The record of a geometry in what stands around it."""
     if "coordinates" not in geometry:
         text = f"{before}{geometry.text()}{behind}"
-        return Record(name, geometry.plain(), text, line=line)
+        return Record(fid, geometry.plain(), text, line=line)
     head, tail = geometry.around("coordinates")
     member = geometry["coordinates"]
-    return Record(name, geometry.plain(), before + head,
+    return Record(fid, geometry.plain(), before + head,
                   member.text[member.begin:], tail + behind, line)
 
 
-def _feature_record(name: str, feature: Any,
+def _feature_record(fid: int, feature: Any,
                     line: Optional[int] = None) -> Record:
     if isinstance(feature, _Plain):
-        return Record(name, feature.geometry, feature.before,
+        return Record(fid, feature.geometry, feature.before,
                       feature.coordinates, feature.behind, line)
     if not isinstance(feature, Members) or feature.value("type") != "Feature":
         if isinstance(feature, Members):
@@ -43,8 +43,8 @@ def _feature_record(name: str, feature: Any,
         raise FeatureError(f"a Feature is needed, not {short(feature)}")
     geometry = feature.value("geometry")
     if not isinstance(geometry, Members):
-        return Record(name, geometry, feature.text(), line=line)
-    return _geometry_record(name, geometry, *feature.around("geometry"), line)
+        return Record(fid, geometry, feature.text(), line=line)
+    return _geometry_record(fid, geometry, *feature.around("geometry"), line)
 
 
 class _Plain(NamedTuple):
@@ -135,7 +135,7 @@ class Document:
     def _features(self) -> Iterator[Record]:
         for number, feature in enumerate(self._pieces.items("]", _feature_at)):
             try:
-                yield _feature_record(f"feature {number}", feature)
+                yield _feature_record(number, feature)
             except FeatureError as error:
                 raise error.of(number) from None
 
@@ -153,9 +153,9 @@ class Document:
     def _lone_record(self, members: Members) -> Record:
         """The record of a feature or a geometry that isn't in a list."""
         if members.value("type") == "Feature":
-            return _feature_record("feature 0", members)
+            return _feature_record(0, members)
         around = FEATURE if self._needs_features else ("", "")
-        return _geometry_record("feature 0", members, *around)
+        return _geometry_record(0, members, *around)
 
 
 def line_records(file: TextIO) -> Iterator[Record]:
@@ -171,7 +171,7 @@ def line_records(file: TextIO) -> Iterator[Record]:
         try:
             feature, end = parsed(_feature_at, text, 0)
             end_at(text, end)
-            record = _feature_record(f"feature {count}", feature, number)
+            record = _feature_record(count, feature, number)
         except json.JSONDecodeError as error:
             raise ValueError(f"line {number}: {error.msg}: column"
                              f" {error.colno}") from None

@@ -253,6 +253,20 @@ class GeoPackage:
                                      " without a key")
                 yield Row(layer, fid, blob)
 
+    @property
+    def area_unit(self) -> str:
+        """What areas are in: degrees if each layer says that it is."""
+        execute = self._store.execute
+        with _naming(self._given):
+            if execute("SELECT 1 FROM main.sqlite_master WHERE name ="
+                       " 'gpkg_spatial_ref_sys'").fetchone():
+                are = {execute("SELECT max(ltrim(definition) LIKE 'GEOG%')"
+                               " FROM main.gpkg_spatial_ref_sys"
+                               " WHERE srs_id = ?", (layer.srs,)).fetchone()[0]
+                       for layer in self._layers}
+                return "square degrees" if are == {1} else "square units"
+        return "square units"
+
     def blocks(self) -> Iterator[Block]:
         for layer in self._layers:
             rows = track(self._rows(layer), f"features of {layer.name}")
@@ -411,6 +425,17 @@ def _copied(given: Path, beside: Path,
             _bound_growth(store)
             store.execute("BEGIN")
         yield store, mode
+
+
+@contextmanager
+def only_read(path: Path, others: str,
+              layers: Sequence[str]) -> Iterator[GeoPackage]:
+    """A GeoPackage that isn't changed, within a transaction."""
+    _require_exists(path)
+    with closing(_connected(path)) as store:
+        with _naming(path):
+            store.execute("BEGIN")
+        yield GeoPackage(path, path, store, others, layers)
 
 
 @contextmanager

@@ -16,10 +16,13 @@ Number = TypeVar("Number", int, float)
 
 
 class Told(NamedTuple):
-    """The lines of the report, and what is always said at the end."""
+    """The lines of the report, what is always said at the end, and the
+    status of the command.
+    """
 
     lines: Iterable[str]
     last: str
+    status: int = 0
 
 
 def _are_outer(features: Features) -> Array:
@@ -64,16 +67,22 @@ def _total(areas: Sequence[Number], features: Features) -> Number:
                for area, is_outer in zip(areas, are_outer))
 
 
-def _area_text(doubled: float, grid: Grid) -> str:
-    """Half of so many cells of the grid, in the file's unit."""
+def kept_text(count: int) -> str:
+    """What is said of features that aren't polygons, and are kept."""
+    return f"kept as they are: {count}"
+
+
+def _area_text(doubled: float, grid: Grid, unit: str) -> str:
+    """Half of so many cells of the grid, in squares of the file's unit."""
     area = doubled / 2 * grid.step * grid.step
-    return f"{area:.12g}" if math.isfinite(area) else "too great for a float"
+    return (f"{area:.12g} {unit}" if math.isfinite(area)
+            else "too great for a float")
 
 
-def _cells_text(doubled: int, grid: Grid) -> str:
+def _cells_text(doubled: int, grid: Grid, unit: str) -> str:
     """The same, and how many cells these are."""
     sign, half = "-" if doubled < 0 else "", ".5" if doubled % 2 else ""
-    return (f"{_area_text(doubled, grid)},"
+    return (f"{_area_text(doubled, grid, unit)},"
             f" {sign}{abs(doubled) // 2}{half} cells of the grid")
 
 
@@ -87,16 +96,18 @@ def _counts(features: Features) -> Array:
 class Cleaning:
     """What cleaning removes, and the areas, block by block."""
 
-    def __init__(self, grid: Grid) -> None:
-        self._grid = grid
+    def __init__(self, grid: Grid, unit: str) -> None:
+        self._grid, self._unit = grid, unit
         self._before, self._after = np.zeros((2, 4), np.int64)
         self._given_area = 0.0
         self._areas = [0, 0]
+        self._kept = 0
         self._collapsed: list[str] = []
 
     def add(self, block: Block, whole: Features, left: Features,
             gone: Array) -> None:
         """Add features as rounded and as cleaned, and which rings went."""
+        self._kept += block.kept
         self._before += _counts(whole)
         self._after += _counts(left)
         self._given_area += _total(
@@ -113,7 +124,11 @@ class Cleaning:
         names = ("features with polygons", "polygons", "rings", "points")
         for name, before, after in zip(names, self._before, self._after):
             yield f"{name}: {before} before, {after} after"
-        yield f"area as given: {_area_text(self._given_area, self._grid)}"
+        if self._kept:
+            yield kept_text(self._kept)
+        given = _area_text(self._given_area, self._grid, self._unit)
+        yield f"area as given: {given}"
         for name, doubled in zip(("before", "after"), self._areas):
-            yield f"area {name}: {_cells_text(doubled, self._grid)}"
+            cells = _cells_text(doubled, self._grid, self._unit)
+            yield f"area {name}: {cells}"
         yield from (f"collapsed: {place}" for place in self._collapsed)

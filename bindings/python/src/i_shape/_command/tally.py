@@ -22,7 +22,8 @@ def _rows(features: Features, are_asked: Array, counts: Array) -> Array:
     rows = np.zeros((len(points), 3))
     rows[:, :2] = points
     rows[rings[:-1][rings[:-1] < rings[1:]], 2] = 1
-    return rows[np.repeat(are_asked, counts)]
+    asked: Array = rows[np.repeat(are_asked, counts)]
+    return asked
 
 
 def _are_changed(before: Features, after: Features) -> Array:

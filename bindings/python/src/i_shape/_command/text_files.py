@@ -22,7 +22,7 @@ def _wkt_records(file: TextIO) -> Iterator[Record]:
     count = 0
     for number, line in enumerate(file, 1):
         if line.strip():
-            yield Record(f"feature {count}", line, line.strip(), line=number)
+            yield Record(count, line, line.strip(), line=number)
             count += 1
 
 
@@ -32,6 +32,8 @@ class TextPair:
     The formats are those that :mod:`files` names. ``places`` is how many
     decimal places the coordinates that are written are likely to have.
     """
+
+    area_unit = "square units"  # of the coordinates, which no text names
 
     def __init__(self, given: TextIO, given_format: str, out: TextIO,
                  out_format: str, others: str,

@@ -140,18 +140,24 @@ class Builder:
         """An error in the ring, or the polygon, that would be the next."""
         ring = len(self._rings) - 1 - self._polygons[-1]
         kind = OtherGeometryError if is_other else FeatureError
-        return kind(
+        error = kind(
             message, self.next_feature(),
             len(self._polygons) - 1 - self._features[-1],
             ring if is_in_ring else None, point)
+        if isinstance(error, OtherGeometryError):
+            error.has_more = True
+        return error
 
     def feature_fault(self, message: str) -> FeatureError:
         """An error in the feature that would be the next."""
         return FeatureError(message, self.next_feature())
 
-    def other(self, message: str) -> OtherGeometryError:
+    def other(self, message: str,
+              has_more: bool = False) -> OtherGeometryError:
         """An error of a next feature that has no polygons to read."""
-        return OtherGeometryError(message, self.next_feature())
+        error = OtherGeometryError(message, self.next_feature())
+        error.has_more = has_more
+        return error
 
     def leave_out(self) -> None:
         """Forget what there is of the feature that would be the next."""

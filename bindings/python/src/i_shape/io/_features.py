@@ -58,8 +58,11 @@ class FeatureError(ValueError):
 class OtherGeometryError(FeatureError):
     """A geometry is no polygon or multipolygon of two coordinates a point.
 
-    What it is made of may be without a fault.
+    What it is made of may be without a fault. ``has_more`` is whether it is
+    one, of more coordinates a point.
     """
+
+    has_more = False
 
 
 class Place(NamedTuple):

@@ -2,8 +2,9 @@
 
 from __future__ import annotations
 
+from contextlib import contextmanager
 from functools import partial
-from typing import Any, Callable, Union
+from typing import Any, Callable, Iterator, Union
 
 import numpy as np
 
@@ -17,7 +18,15 @@ from ._grid import Grid, features_from_grid, features_to_grid
 from ._shapely import fault_of, from_shapely, to_shapely
 
 
-def _places(geometries: Any, others: str) -> Array:
+def require_series(series: Any) -> None:
+    """Raise an error for what is no GeoSeries."""
+    import geopandas
+    if not isinstance(series, geopandas.GeoSeries):
+        raise TypeError("a GeoSeries is needed, as frame.geometry, not a"
+                        f" {type(series).__name__}")
+
+
+def polygon_places(geometries: Any, others: str) -> Array:
     """Which of the geometries are polygons; None is none of them."""
     if others not in ("raise", "keep"):
         raise ValueError(f"others is {short(others)}: raise or keep is"
@@ -31,26 +40,31 @@ def _places(geometries: Any, others: str) -> Array:
     return np.flatnonzero([fault is None for fault in faults])
 
 
+@contextmanager
+def naming(places: Array) -> Iterator[None]:
+    """Name the feature that has a fault by its place in the series."""
+    try:
+        yield
+    except FeatureError as error:
+        assert error.feature is not None
+        raise error.of(int(places[error.feature])) from None
+
+
 def _cleaned(series: Any, step: Union[float, Grid],
              cleaner: Callable[..., Features], collapsed: str,
              others: str) -> Any:
     import geopandas
-    if not isinstance(series, geopandas.GeoSeries):
-        raise TypeError("a GeoSeries is needed, as frame.geometry, not a"
-                        f" {type(series).__name__}")
+    require_series(series)
     check_collapsed(collapsed)
     grid = step if isinstance(step, Grid) else Grid(step)
     answer = series.array.copy()
-    places = _places(answer, others)
-    try:
+    places = polygon_places(answer, others)
+    with naming(places):
         whole = features_to_grid(from_shapely(answer[places]), grid)
         left = cleaner(whole, collapsed="empty")
         if collapsed == "raise":
             require_uncollapsed(whole, left, "polygons")
         left = features_from_grid(left, grid)
-    except FeatureError as error:
-        assert error.feature is not None
-        raise error.of(int(places[error.feature])) from None
     answer[places] = geopandas.GeoSeries(to_shapely(left),
                                          crs=series.crs).array
     return geopandas.GeoSeries(answer, index=series.index, name=series.name)

@@ -88,7 +88,7 @@ class _Reader:
         if base in (_POLYGON, _MULTIPOLYGON):
             return self._builder.other(
                 f"a {_NAMES[base]} of two coordinates a point is needed, and"
-                " it has more")
+                " it has more", has_more=True)
         return self._builder.other(
             f"a Polygon or a MultiPolygon is needed, not a {_NAMES[base]}")
 

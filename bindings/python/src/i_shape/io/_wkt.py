@@ -53,14 +53,15 @@ class _Reader:
     def read(self) -> None:
         kind = self._takes(_HEAD).strip().upper()
         if not kind:
-            fault = (self._builder.other if _OTHER.match(self._text)
-                     else self._builder.feature_fault)
-            raise fault("POLYGON or MULTIPOLYGON is needed, not"
-                        f" {short(self._text.strip())}")
+            message = ("POLYGON or MULTIPOLYGON is needed, not"
+                       f" {short(self._text.strip())}")
+            if _OTHER.match(self._text):
+                raise self._builder.other(message)
+            raise self._builder.feature_fault(message)
         if self._takes(_DIMENSIONS):
             raise self._builder.other(
                 f"a {kind} of two coordinates a point is needed, and it has"
-                " more")
+                " more", has_more=True)
         is_multi = kind == "MULTIPOLYGON"
         if not self._takes(_EMPTY):
             if is_multi:
@@ -165,7 +166,7 @@ def from_wkt(texts: Iterable[str]) -> Features:
     return builder.features()
 
 
-def _shown(number: float) -> str:
+def shown(number: float) -> str:
     """A text of the fewest digits that is read as the number."""
     text = repr(number)
     return text[:-2] if text.endswith(".0") else text
@@ -177,12 +178,12 @@ def texts(features: Features) -> Iterator[str]:
     ends = polygons.ring_offsets.tolist()
     parts, feature_ends = polygons.polygon_offsets.tolist(), offsets.tolist()
 
-    def listed(shown: list[str]) -> str:
-        return f"({', '.join(shown)})" if shown else "EMPTY"
+    def listed(its: list[str]) -> str:
+        return f"({', '.join(its)})" if its else "EMPTY"
 
     def ring(place: int) -> str:
         points = polygons.points[ends[place]:ends[place + 1]].tolist()
-        return listed([f"{_shown(x)} {_shown(y)}"
+        return listed([f"{shown(x)} {shown(y)}"
                        for x, y in points + points[:1]])
 
     def polygon(place: int) -> str:

@@ -1,0 +1,52 @@
+"""Which features aren't valid, and why."""
+
+from __future__ import annotations
+
+import json
+from pathlib import Path
+from typing import Any, Iterator, Optional
+
+from ..io import FeatureFault, Grid, features_to_grid
+from ..io._validity import faults_of
+from .files import Pair
+from .report import Told
+
+
+def _points(group: str, fid: int,
+            fault: FeatureFault) -> Iterator[dict[str, Any]]:
+    """A feature of GeoJSON for each point of a fault, or one without any."""
+    properties = {**({"layer": group} if group else {}), "fid": fid,
+                  "reason": str(fault)}
+    for point in fault.points or [None]:
+        geometry = point and {"type": "Point", "coordinates": point}
+        yield {"type": "Feature", "properties": properties,
+               "geometry": geometry}
+
+
+def _write(points: list[dict[str, Any]], to: Path) -> None:
+    lines = ",\n".join(map(json.dumps, points))
+    to.write_text('{"type": "FeatureCollection", "features": [\n'
+                  f"{lines}\n]}}\n", encoding="utf-8")
+
+
+def run(pair: Pair, grid: Grid, to: Optional[Path]) -> Told:
+    """Return a line for each feature that isn't valid.
+
+    If there is a path, the points of their faults are written to it.
+    """
+    count = 0
+    lines: list[str] = []
+    points: list[dict[str, Any]] = []
+    for block in pair.blocks():
+        with block.naming():
+            whole = features_to_grid(block.features, grid)
+        count += len(whole.are_multi)
+        for record, fault in zip(block.polygon_records,
+                                 faults_of(block.features, whole)):
+            if fault is not None:
+                lines.append(f"{record.place}: {fault}")
+                points += _points(block.group, record.fid, fault)
+    if to:
+        _write(points, to)
+    return Told(lines, f"{len(lines)} of {count} features invalid",
+                1 if lines else 0)

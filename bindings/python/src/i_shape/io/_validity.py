@@ -1,0 +1,198 @@
+"""What is wrong with features, in words."""
+
+from __future__ import annotations
+
+from dataclasses import dataclass
+from typing import Any, NamedTuple, Optional, Tuple, Union
+
+import numpy as np
+
+from .._contacts import Fault, polygon_validity
+from .._library import Array
+from ._features import Features, as_features
+from ._geoseries import naming, polygon_places, require_series
+from ._grid import Grid, features_to_grid
+from ._shapely import from_shapely
+from ._wkt import shown
+
+Coordinates = Tuple[float, float]
+
+
+@dataclass(frozen=True)
+class FeatureFault:
+    """The first fault of a feature that isn't valid.
+
+    ``str`` of it says in words what is wrong, and where, as pandas shows it.
+
+    Attributes
+    ----------
+    kind : Fault
+        What is wrong; not ``Fault.VALID``.
+    polygon : int
+        Index of the polygon in the feature.
+    ring : int
+        Index of the ring in the polygon; the outer one is 0. For
+        ``Fault.CONTACT`` it has the first of the two edges.
+    other : int or None
+        Index of the other ring: the hole around this one, or that of the
+        second edge, which may be the same ring. None for other kinds.
+    edges : tuple of two int, or None
+        For ``Fault.CONTACT``, of each edge the index in its ring of the
+        point from which it leads. None for other kinds.
+    points : tuple of (x, y)
+        Where it is, in the coordinates of the features: the points from
+        which the two edges lead, or else the first point of the ring, or
+        nothing where it has none.
+    """
+
+    kind: Fault
+    polygon: int
+    ring: int
+    other: Optional[int]
+    edges: Optional[Tuple[int, int]]
+    points: Tuple[Coordinates, ...]
+
+    def __str__(self) -> str:
+        return f"polygon {self.polygon}, ring {self.ring}: {self._words()}"
+
+    def _words(self) -> str:
+        places = [f"({shown(x)}, {shown(y)})" for x, y in self.points]
+        if self.edges:
+            first, second = self.edges
+            ring = "" if self.other == self.ring else f" of ring {self.other}"
+            return (f"edge {first} from {places[0]} meets edge {second}{ring}"
+                    f" from {places[1]}")
+        at = f", at {places[0]}" if places else ""
+        if self.kind == Fault.COLLAPSED:
+            return f"it has fewer than three points, or only equal ones{at}"
+        if self.kind == Fault.HOLE_OUTSIDE:
+            return f"it is a hole outside the outer ring{at}"
+        return f"it is a hole within ring {self.other}, another hole{at}"
+
+
+class _Row(NamedTuple):
+    """A point of features: the ring in its polygon, and where it is there."""
+
+    ring: int
+    point: int
+    coordinates: Coordinates
+
+
+def _row(features: Features, row: int) -> _Row:
+    x, y = features.polygons.points[row].tolist()
+    place = features.place(row)
+    return _Row(place.ring, place.point, (x, y))
+
+
+def _contact(features: Features, polygon: int, first: int,
+             second: int) -> FeatureFault:
+    """The fault of two edges, which lead from these rows."""
+    one, other = _row(features, first), _row(features, second)
+    return FeatureFault(Fault.CONTACT, polygon, one.ring, other.ring,
+                        (one.point, other.point),
+                        (one.coordinates, other.coordinates))
+
+
+def _fault(features: Features, polygon: int, kind: Fault, first: int,
+           second: int) -> FeatureFault:
+    """The fault of a polygon, by its place in the feature."""
+    if kind == Fault.CONTACT:
+        return _contact(features, polygon, first, second)
+    start, end = features.polygons.ring_offsets[first:first + 2].tolist()
+    points: Array = features.polygons.points[start:min(start + 1, end)]
+    other = (features.ring_place(second)[2] if kind == Fault.HOLE_WITHIN
+             else None)
+    return FeatureFault(kind, polygon, features.ring_place(first)[2], other,
+                        None, tuple((x, y) for x, y in points.tolist()))
+
+
+def faults_of(given: Features, whole: Features,
+              threads: int = 1) -> list[Optional[FeatureFault]]:
+    """The first fault of each feature, in the coordinates as given."""
+    faults = polygon_validity(*whole.polygons, threads=threads)
+    found: list[Optional[FeatureFault]] = [None] * len(whole.are_multi)
+    for place in np.flatnonzero(faults["kind"])[::-1].tolist():
+        # Of several faults of a feature the first one is set last.
+        kind, first, second = faults[place].tolist()
+        feature = int(np.searchsorted(whole.feature_offsets, place,
+                                      side="right")) - 1
+        polygon = place - int(whole.feature_offsets[feature])
+        found[feature] = _fault(given, polygon, Fault(kind), first, second)
+    return found
+
+
+def _explained(features: Features, grid: Grid,
+               threads: int) -> list[Optional[FeatureFault]]:
+    return faults_of(features, features_to_grid(features, grid), threads)
+
+
+def _explained_series(series: Any, grid: Grid, others: str,
+                      threads: int) -> Any:
+    require_series(series)
+    import pandas
+    geometries = series.array
+    places = polygon_places(geometries, others)
+    faults: list[Optional[FeatureFault]] = [None] * len(geometries)
+    with naming(places):
+        found = _explained(from_shapely(geometries[places]), grid, threads)
+    for place, fault in zip(places.tolist(), found):
+        faults[place] = fault
+    return pandas.Series(faults, index=series.index, dtype=object,
+                         name=series.name)
+
+
+def explain_validity(features: Any, step: Union[float, Grid], *,
+                     others: str = "raise", threads: int = 1) -> Any:
+    """Return of each feature the first fault of its polygons.
+
+    They are rounded onto a grid, and tested there by
+    :func:`i_shape.polygon_validity`. Polygons of one feature aren't
+    compared with one another.
+
+    Parameters
+    ----------
+    features : Features or geopandas.GeoSeries
+        Of floats or whole numbers; a series as ``frame.geometry``.
+    step : float or Grid
+        How far neighbours on the grid are apart, in the unit of the
+        coordinates, or the grid. With 1, whole numbers stay as they are,
+        up to 2**53.
+    others : "raise" or "keep"
+        What becomes of a geometry of a series that is no Polygon or
+        MultiPolygon, or has three coordinates a point: an error, or None.
+    threads : int
+        As for :func:`i_shape.polygon_validity`.
+
+    Returns
+    -------
+    list, or pandas.Series with the index and name of the series
+        For each feature None if each of its polygons is valid, or else a
+        :class:`FeatureFault`. A feature without polygons is valid.
+
+    Raises
+    ------
+    FeatureError
+        A coordinate isn't finite or is too far from the origin; of a
+        series, a geometry is another one and ``others`` is "raise".
+    OffsetsError, TypeError, ValueError, MemoryError
+        As :func:`features_to_grid` and :func:`i_shape.polygon_validity`
+        do.
+    ImportError
+        There is no geopandas, for a series.
+
+    Examples
+    --------
+    >>> from i_shape.io import explain_validity, from_wkt
+    >>> given = from_wkt(["POLYGON ((0 0, 4 0, 4 4, 0 0))",
+    ...                   "POLYGON ((0 0, 4.5 4.5, 4.5 0, 0 4.5, 0 0))"])
+    >>> for fault in explain_validity(given, step=0.5):
+    ...     print(fault)
+    None
+    polygon 0, ring 0: edge 0 from (0, 0) meets edge 2 from (4.5, 0)
+    """
+    grid = step if isinstance(step, Grid) else Grid(step)
+    if not isinstance(features, tuple):
+        return _explained_series(features, grid, others, threads)
+    if others != "raise":
+        raise ValueError("others is for a GeoSeries")
+    return _explained(as_features(features), grid, threads)

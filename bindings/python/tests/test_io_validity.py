@@ -1,0 +1,217 @@
+"""The faults of features: in words, of a GeoSeries, and by the command."""
+
+import json
+import unittest
+
+import samples
+from i_shape import Fault, io
+from test_command import CommandCase
+from test_geopackage import GeoPackageCase, blob
+from test_geoseries import WHY_NOT
+
+SQUARE = "(0.5 0, 2.5 0, 2.5 2, 0.5 2, 0.5 0)"
+HOLE = "(1 0.5, 1 1, 1.5 0.5, 1 0.5)"
+BESIDE = "(3 0.5, 3 1, 3.5 0.5, 3 0.5)"
+
+# Features of WKT, and for each its fault and the words of it.
+FAULTS = [
+    (f"POLYGON ({SQUARE}, {HOLE})", None, "None"),
+    ("POLYGON EMPTY", None, "None"),
+    ("POLYGON ((0 0, 4.5 4.5, 4.5 0, 0 4.5, 0 0))",
+     (Fault.CONTACT, 0, 0, 0, (0, 2), ((0.0, 0.0), (4.5, 0.0))),
+     "polygon 0, ring 0: edge 0 from (0, 0) meets edge 2 from (4.5, 0)"),
+    (f"MULTIPOLYGON (({SQUARE}), ({SQUARE}, (0.5 1, 1 1, 1 1.5, 0.5 1)))",
+     (Fault.CONTACT, 1, 0, 1, (3, 0), ((0.5, 2.0), (0.5, 1.0))),
+     "polygon 1, ring 0: edge 3 from (0.5, 2) meets edge 0 of ring 1 from"
+     " (0.5, 1)"),
+    # 0.9 and 1.1 are 4 steps
+    (f"POLYGON ({SQUARE}, (1.1 1.1, 0.9 1.1, 1.1 0.9, 1.1 1.1))",
+     (Fault.COLLAPSED, 0, 1, None, None, ((1.1, 1.1),)),
+     "polygon 0, ring 1: it has fewer than three points, or only equal ones,"
+     " at (1.1, 1.1)"),
+    # the first polygon with a fault
+    (f"MULTIPOLYGON (({SQUARE}, {HOLE}, {BESIDE}), (EMPTY))",
+     (Fault.HOLE_OUTSIDE, 0, 2, None, None, ((3.0, 0.5),)),
+     "polygon 0, ring 2: it is a hole outside the outer ring, at (3, 0.5)"),
+    (f"POLYGON ((0 0, 9 0, 9 9, 0 9, 0 0), {HOLE},"
+     " (0.5 0.25, 0.5 2, 3 0.25, 0.5 0.25))",
+     (Fault.HOLE_WITHIN, 0, 1, 2, None, ((1.0, 0.5),)),
+     "polygon 0, ring 1: it is a hole within ring 2, another hole, at"
+     " (1, 0.5)"),
+    ("POLYGON (EMPTY)", (Fault.COLLAPSED, 0, 0, None, None, ()),
+     "polygon 0, ring 0: it has fewer than three points, or only equal ones"),
+]
+GIVEN = io.from_wkt([text for text, _, _ in FAULTS])
+LINES = [(place, told) for place, (_, fault, told) in enumerate(FAULTS)
+         if fault]
+
+
+class Explained(unittest.TestCase):
+
+    def test_features(self):
+        for step in (0.25, io.Grid(0.25)):
+            found = io.explain_validity(GIVEN, step, threads=2)
+            self.assertEqual(found, [fault and io.FeatureFault(*fault)
+                                     for _, fault, _ in FAULTS])
+            self.assertEqual(list(map(str, found)),
+                             [told for _, _, told in FAULTS])
+
+    def test_rounding_makes_and_ends_faults(self):
+        text = "POLYGON ((0 0, 4 0, 4 4, 4 4.1, 0 4, 0 0))"
+        given = io.from_wkt([text])
+        self.assertEqual(io.explain_validity(given, 0.1), [None])
+        self.assertEqual(str(io.explain_validity(given, 1)[0]),
+                         "polygon 0, ring 0: edge 1 from (4, 0) meets edge 3"
+                         " from (4, 4.1)")
+
+    def test_what_is_refused(self):
+        with self.assertRaises(io.FeatureError) as told:
+            io.explain_validity(GIVEN, 1e-30)
+        self.assertEqual(told.exception.feature, 0)
+        with self.assertRaises(ValueError):
+            io.explain_validity(GIVEN, 1, others="keep")
+        with self.assertRaises(ValueError):
+            io.explain_validity(GIVEN, 0)
+
+    @unittest.skipIf(WHY_NOT, WHY_NOT)
+    def test_geoseries(self):
+        import geopandas
+        from shapely import geometry
+        bow_tie = geometry.Polygon([(0, 0), (4, 4), (4, 0), (0, 4)])
+        items = [geometry.Point(1, 2), None, geometry.Polygon(),
+                 geometry.box(0, 0, 1, 1), bow_tie]
+        series = geopandas.GeoSeries(items, index=["c", "b", "a", 7, 7],
+                                     name="parcels")
+        found = io.explain_validity(series, 1, others="keep")
+        self.assertEqual((found.index.tolist(), found.name),
+                         (series.index.tolist(), "parcels"))
+        self.assertEqual(found.tolist(), [
+            None, None, None, None, io.FeatureFault(
+                Fault.CONTACT, 0, 0, 0, (0, 2), ((0.0, 0.0), (4.0, 0.0)))])
+        self.assertIn("polygon 0, ring 0: edge 0 from", found.to_string())
+        with self.assertRaises(io.FeatureError) as told:
+            io.explain_validity(series, 1)
+        self.assertEqual(told.exception.feature, 0)
+        with self.assertRaises(io.FeatureError) as told:
+            io.explain_validity(series[1:], 1e-30, others="keep")
+        self.assertEqual(told.exception.feature, 2)
+        with self.assertRaises(TypeError):
+            io.explain_validity(geopandas.GeoDataFrame(geometry=series), 1)
+
+
+class Checked(CommandCase):
+
+    def test_texts(self):
+        last = f"i_shape: {len(LINES)} of {len(FAULTS)} features invalid\n"
+        for name, place in (("given.geojson", "feature {0}"),
+                            ("given.wkt", "line {1}: feature {0}")):
+            path = self.folder / name
+            self.write_features(path, GIVEN)
+            told = self.run_command("check", path, "--step", "0.25", status=1)
+            self.assertEqual(told, ("".join(
+                f"{place.format(at, at + 1)}: {words}\n"
+                for at, words in LINES), last))
+            self.assertEqual(list(self.folder.iterdir()), [path])
+            path.unlink()
+
+    def test_the_origin_of_the_grid(self):
+        self.write(samples.geojson(samples.polygon(
+            [(0, 0), (4, 0), (4, 4), (4, 4.4), (0, 4)])))
+        words = ["check", self.given, "--step", "1"]
+        self.run_command(*words, status=1)
+        self.run_command(*words, "--origin", "0", "0.7")
+
+    def test_nothing_is_told_of_valid_features(self):
+        square = samples.polygon(samples.SQUARE)
+        self.write(samples.geojson(square, None, square))
+        told = self.run_command("check", self.given, "--step", "1", "--to",
+                                self.out)
+        self.assertEqual(told, ("", "i_shape: 0 of 2 features invalid\n"))
+        self.assertEqual(self.geometries(), [])
+
+    def test_points_of_faults(self):
+        self.write(samples.geojson(
+            None, samples.polygon([(0, 0), (4, 4), (4, 0), (0, 4)]),
+            samples.polygon([])))
+        self.run_command("check", self.given, "--step", "1", "--to", self.out,
+                         status=1)
+        features = json.loads(self.out.read_text())["features"]
+        self.assertEqual(
+            [(one["geometry"], one["properties"]) for one in features],
+            [({"type": "Point", "coordinates": point},
+              {"fid": 1, "reason": "polygon 0, ring 0: edge 0 from (0, 0)"
+               " meets edge 2 from (4, 0)"}) for point in ([0, 0], [4, 0])]
+            + [(None, {"fid": 2, "reason": FAULTS[-1][2]})])
+
+    def test_others_are_left_out_or_refused(self):
+        self.write(samples.geojson({"type": "Point", "coordinates": [0, 0]},
+                                   samples.polygon(samples.SQUARE)))
+        for others in ("keep", "drop"):
+            told = self.run_command("check", self.given, "--step", "1",
+                                    "--others", others)
+            self.assertEqual(told[1], "i_shape: 0 of 1 features invalid\n")
+        told = self.run_command("check", self.given, "--step", "1", "--to",
+                                self.out, status=1)
+        self.assertIn("feature 0: a Polygon or", told[1])
+        self.assertFalse(self.out.exists())
+
+    def test_words_that_are_refused(self):
+        self.write(samples.geojson())
+        step = ["--step", "1"]
+        for words, told in (
+                (["check", self.given, self.out, *step], "writes no OUT"),
+                (["check", self.given, *step, "--oriented"],
+                 "--oriented isn't for check"),
+                (["check", self.given, *step, "--collapsed", "drop"],
+                 "--collapsed isn't for check"),
+                (["check", self.given, *step, "--report"],
+                 "--report isn't for check"),
+                (["check", self.given, *step, "--layer", "a"],
+                 "--layer is for GeoPackages"),
+                (["check", self.given, *step, "--to", "a.gpkg"],
+                 "a.gpkg doesn't end in one of .geojson, .json"),
+                (["check", self.given, *step, "--to", self.given],
+                 "--to FILE is IN"),
+                (["simplify", self.given, *step], "required: OUT"),
+                (["simplify", self.given, self.out, *step, "--to", "a.json"],
+                 "--to is for check")):
+            with self.subTest(words=words):
+                self.assertIn(told, self.run_command(*words, status=2)[1])
+        self.assertEqual([path.name for path in self.folder.iterdir()],
+                         ["given.geojson"])
+
+    def test_out_may_stand_behind_an_option(self):
+        self.write(samples.geojson())
+        self.run_command("simplify", self.given, "--step", "1", self.out)
+        self.assertTrue(self.out.exists())
+
+
+class CheckedGeoPackage(GeoPackageCase):
+
+    def test_layers(self):
+        blobs = [blob(wkb) for wkb in io.to_wkb(io.from_wkt(
+            ["POLYGON ((0 0, 4 0, 4 4, 0 0))",
+             "POLYGON ((0 0, 4 4, 4 0, 0 4, 0 0))"]))]
+        self.fill(*blobs)
+        self.fill(*blobs[1:], layer="fields")
+        before = self.given.read_bytes()
+        reason = ("polygon 0, ring 0: edge 0 from (0, 0) meets edge 2 from"
+                  " (4, 0)")
+        lines = [f"layer 'parcels', fid 5: {reason}\n",
+                 f"layer 'fields', fid 3: {reason}\n"]
+        faults = self.folder / "faults.geojson"
+        for words, told in (([], lines), (["--layer", "fields"], lines[1:])):
+            out, _ = self.run_command("check", self.given, "--step", "1",
+                                      "--to", faults, *words, status=1)
+            self.assertEqual(out, "".join(told))
+        features = json.loads(faults.read_text())["features"]
+        self.assertEqual([one["properties"] for one in features],
+                         2 * [{"layer": "fields", "fid": 3,
+                               "reason": reason}])
+        self.assertEqual(self.given.read_bytes(), before)
+        self.assertEqual({path.name for path in self.folder.iterdir()},
+                         {"given.gpkg", "faults.geojson"})
+
+
+if __name__ == "__main__":
+    unittest.main()

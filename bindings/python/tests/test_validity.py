@@ -1,0 +1,212 @@
+"""The first faults of polygons: by hand, beside plain loops, and beside
+shapely, whose rule is another one."""
+
+import random
+import unittest
+
+import numpy as np
+
+try:
+    from shapely import geometry
+    WHY_NOT = None
+except ImportError as error:
+    WHY_NOT = f"validity is not compared with shapely: {error}"
+    print(WHY_NOT)
+
+import i_shape
+import plain
+import samples
+from i_shape import Fault
+from test_polygons import flat
+
+SQUARE = [(0, 0), (4, 0), (4, 4), (0, 4)]
+WIDE = [(-9, -9), (9, -9), (9, 9), (-9, 9)]
+LEFT = [(-8, -8), (-8, 8), (-2, 8), (-2, -8)]
+INNER = [(-7, 0), (-5, 2), (-4, -3)]
+ASIDE = [(6, 1), (6, 2), (7, 1)]
+BOW_TIE = [(0, 0), (4, 4), (4, 0), (0, 4)]
+STRAIGHT = [(0, 0), (2, 0), (4, 0), (4, 4)]
+TO_VERTEX = [(0, 0), (1, 2), (2, 1)]
+TO_EDGE = [(1, 1), (2, 1), (2, 4)]
+
+# Polygons, and the kind of the fault of each, with the places in it.
+BY_HAND = [
+    ([], Fault.VALID, 0, 0),
+    ([STRAIGHT], Fault.VALID, 0, 0),
+    ([WIDE, ASIDE, LEFT[::-1]], Fault.VALID, 0, 0),
+    ([WIDE[::-1], ASIDE, LEFT], Fault.VALID, 0, 0),
+    ([[]], Fault.COLLAPSED, 0, 0),
+    ([BOW_TIE, ASIDE, [(1, 1), (1, 1), (1, 1)]], Fault.COLLAPSED, 2, 0),
+    ([SQUARE, SQUARE[:2]], Fault.COLLAPSED, 1, 0),
+    ([BOW_TIE], Fault.CONTACT, 0, 2),
+    ([SQUARE[:1] + SQUARE], Fault.CONTACT, 1, 4),
+    ([SQUARE, TO_VERTEX], Fault.CONTACT, 0, 4),
+    ([SQUARE, ASIDE, TO_EDGE], Fault.CONTACT, 2, 8),
+    ([SQUARE, ASIDE], Fault.HOLE_OUTSIDE, 1, 0),
+    ([SQUARE, WIDE], Fault.HOLE_OUTSIDE, 1, 0),
+    ([WIDE, LEFT, INNER, [(20, 1), (20, 2), (21, 1)]],
+     Fault.HOLE_OUTSIDE, 3, 0),
+    ([WIDE, ASIDE, INNER, LEFT], Fault.HOLE_WITHIN, 2, 3),
+    ([WIDE, LEFT, ASIDE, INNER], Fault.HOLE_WITHIN, 3, 1),
+]
+
+
+def placed(kind, first, second, rings, points):
+    """The fault behind so many rings and points."""
+    if kind == Fault.CONTACT:
+        return int(kind), first + points, second + points
+    return (int(kind), first + rings * (kind != Fault.VALID),
+            second + rings * (kind == Fault.HOLE_WITHIN))
+
+
+def all_placed(polygons, faults):
+    """The faults of polygons end to end."""
+    rings = points = 0
+    for polygon, fault in zip(polygons, faults):
+        yield placed(*fault, rings, points)
+        rings += len(polygon)
+        points += sum(map(len, polygon))
+
+
+class Answers(unittest.TestCase):
+
+    def test_by_hand(self):
+        polygons = [polygon for polygon, *_ in BY_HAND]
+        right = list(all_placed(polygons, [fault for _, *fault in BY_HAND]))
+        for dtype in plain.DTYPES:
+            points, rings, ends = flat(polygons, dtype)
+            for threads in (1, 3):
+                faults = i_shape.polygon_validity(points, rings, ends,
+                                                  threads=threads)
+                self.assertEqual(faults.tolist(), right)
+            self.assertEqual(
+                i_shape.polygon_validity(points, rings, ends[3:9]).tolist(),
+                right[3:8])
+            self.assertEqual(
+                i_shape.polygon_validity(points, rings, ends[:1]).tolist(),
+                [])
+
+    def test_random_polygons_and_offsets_that_leave_some_out(self):
+        kinds = set()
+        for dtype in plain.DTYPES:
+            numbers = random.Random(73)
+            for _ in range(200):
+                polygons = [small_polygon(numbers)
+                            for _ in range(numbers.randrange(6))]
+                right = list(all_placed(
+                    polygons, map(plain.first_fault, polygons)))
+                points, rings, ends = flat(polygons, dtype)
+                low = numbers.randrange(len(ends))
+                high = numbers.randrange(low, len(ends))
+                # What lies outside isn't read.
+                points[:rings[ends[low]]] = np.iinfo(dtype).min
+                points[rings[ends[high]]:] = np.iinfo(dtype).max
+                faults = i_shape.polygon_validity(
+                    points, rings, ends[low:high + 1],
+                    threads=numbers.randint(1, 3))
+                self.assertEqual(faults.tolist(), right[low:high],
+                                 (polygons, low, high))
+                kinds.update(faults["kind"].tolist())
+        self.assertEqual(kinds, set(Fault))
+
+
+class Errors(unittest.TestCase):
+
+    def test_what_is_refused(self):
+        points = np.array([(0, 0), (2**30, 0), (4, 4), (0, 4)], np.int32)
+        for threads in (1, 2):
+            with self.assertRaises(i_shape.UnsafePointError) as told:
+                i_shape.polygon_validity(points, [0, 1, 1, 4], [0, 1, 3],
+                                         threads=threads)
+            self.assertEqual(
+                (told.exception.ring, told.exception.point), (2, 1))
+        for rings, ends in (([], [0]), ([0, 3, 2], [0, 2]), ([0, 5], [0, 1]),
+                            ([0, 4], [0, 2]), ([0, 4], [])):
+            with self.assertRaises(i_shape.OffsetsError):
+                i_shape.polygon_validity(points, rings, ends)
+
+
+def small_ring(numbers, span):
+    return [(numbers.randint(0, span), numbers.randint(0, span))
+            for _ in range(numbers.randint(3, 6))]
+
+
+def small_polygon(numbers):
+    """Rings within a square, of which holes are often such or triangles."""
+    span = 9
+    rings = [small_ring(numbers, span)]
+    if numbers.random() < 0.7:
+        rings[0] = [(0, 0), (span, 0), (span, span), (0, span)]
+    for _ in range(numbers.randrange(3)):
+        side = numbers.choice([1, 2, 6])
+        x, y = (numbers.randint(1, span - side - 1) for _ in range(2))
+        corners = [(x, y), (x + side, y), (x + side, y + side), (x, y + side)]
+        rings.append(corners[:numbers.choice([3, 4])])
+    if numbers.random() < 0.1:
+        rings.append([])
+    return rings
+
+
+def tiny_polygon(numbers):
+    """A ring on a grid of 4 by 4, half of them around it, and holes."""
+    outer = [(0, 0), (3, 0), (3, 3), (0, 3)]
+    if numbers.random() < 0.5:
+        outer = small_ring(numbers, 3)
+    return [outer, *(small_ring(numbers, 3)
+                     for _ in range(numbers.randrange(3)))]
+
+
+def without_repeats(polygon):
+    return [[point for place, point in enumerate(ring)
+             if point != ring[place - 1]] for ring in polygon]
+
+
+def ring_of(polygon, row):
+    """The ring of a row of the points of a polygon, and the edge from it."""
+    for place, ring in enumerate(polygon):
+        if row < len(ring):
+            return place, ring[row], ring[(row + 1) % len(ring)]
+        row -= len(ring)
+    raise AssertionError(row)
+
+
+def difference(polygon):
+    """Why a polygon that shapely takes isn't valid here."""
+    kind, first, second = plain.first_fault(without_repeats(polygon))
+    if kind == Fault.VALID:
+        return "a repeated point"
+    if kind == Fault.CONTACT:
+        one, other = (ring_of(without_repeats(polygon), row)
+                      for row in (first, second))
+        low, high = plain.shared(*one[1:], *other[1:])
+        if low == high and one[0] != other[0]:
+            return "a touch at a point"
+    return "unexplained"
+
+
+@unittest.skipIf(WHY_NOT, WHY_NOT)
+class BesideShapely(unittest.TestCase):
+
+    COUNT = 100_000 if samples.is_long else 4_000
+
+    def test_who_takes_what(self):
+        numbers = random.Random(74)
+        polygons = [tiny_polygon(numbers) for _ in range(self.COUNT)]
+        kinds = i_shape.polygon_validity(*flat(polygons, np.int32))["kind"]
+        counts = {}
+        for polygon, kind in zip(polygons, kinds.tolist()):
+            is_theirs = geometry.Polygon(polygon[0], polygon[1:]).is_valid
+            if kind == Fault.VALID:
+                self.assertTrue(is_theirs, polygon)
+                why = "valid for both"
+            else:
+                why = difference(polygon) if is_theirs else "invalid for both"
+            self.assertNotEqual(why, "unexplained", polygon)
+            counts[why] = counts.get(why, 0) + 1
+        self.assertEqual(set(counts), {
+            "valid for both", "invalid for both", "a repeated point",
+            "a touch at a point"})
+
+
+if __name__ == "__main__":
+    unittest.main()
