@@ -12,7 +12,24 @@ function removedPoints(rings, leftRings) {
     return removed;
 }
 
-/** Answers of polygons: end to end, what is left, which points aren't and why, the first point of the canonical form, twice the area, whether the first ring is convex. */
+/** An edge of a ring: the index of the point from which it leads, and its ends. */
+function edgeOf(ring, index) {
+    return { index, ends: [ring[index], ring[(index + 1) % ring.length]] };
+}
+
+/** The first two edges in contact of the first ring that has such edges, or no edge. */
+function contactOf(shapes, { points, ringOffsets }, rings) {
+    for (const [k, ring] of rings.entries()) {
+        const contact = shapes.firstContact(points.subarray(2 * ringOffsets[k], 2 * ringOffsets[k + 1]));
+        if (contact) return [edgeOf(ring, contact.first), edgeOf(ring, contact.second)];
+    }
+    return [];
+}
+
+/**
+ * Answers of polygons: end to end, what is left, which points aren't and why, the first point of the canonical form, the first two edges of a ring that are in
+ * contact, twice the area, whether the first ring is convex.
+ */
 export function answersOf(shapes, polygons) {
     const all = flat(polygons);
     const { points, ringOffsets, polygonOffsets } = all;
@@ -24,6 +41,7 @@ export function answersOf(shapes, polygons) {
         left: polygonsOf(shapes.simplifyPolygons(points, ringOffsets, polygonOffsets)),
         removed: removedPoints(rings, ringsOf(simplified.points, simplified.offsets)),
         start: canonical.length ? [canonical[0], canonical[1]] : undefined,
+        contact: contactOf(shapes, all, rings),
         areaTwo: shapes.areaTwoRings(points, ringOffsets).reduce((sum, area) => sum + area, 0n),
         isConvex: rings[0]?.length ? shapes.isConvex(points.subarray(0, 2 * ringOffsets[1])) : undefined,
     };

@@ -14,6 +14,11 @@ export function pathOf(rings) {
     return rings.filter((ring) => ring.length > 0).map((ring) => `${steps(ring)}Z`).join("");
 }
 
+/** The `d` of a path of edges, each by its two ends. */
+export function edgesOf(edges) {
+    return edges.map(([[fromX, fromY], [toX, toY]]) => `M${fromX} ${-fromY}L${toX} ${-toY}`).join("");
+}
+
 // A cell is as wide as a thumb, where the board has room for so many to either side of 0.
 const CELL = 40;
 const [FEWEST, MOST] = [4, 12];

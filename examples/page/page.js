@@ -1,8 +1,8 @@
 /** A polygon that is drawn or pasted, what is left of it, and why. */
 import { answersOf, polygonsIn } from "./answers.js";
-import { drawFrame, element, frameOf, marks, pathOf } from "./board.js";
+import { drawFrame, edgesOf, element, frameOf, marks, pathOf } from "./board.js";
 import { startCoast } from "./coast.js";
-import { FILL_RULES, load, supportsMemory64 } from "./i_shape/src/i_shape.js";
+import { FILL_RULES, load } from "./i_shape/src/i_shape.js";
 import { flat } from "./polygons.js";
 
 // A square with straight points, a spike, a point that comes twice and a bend to the right; and a hole.
@@ -24,7 +24,6 @@ const say = (id, text) => {
 };
 const board = byId("board");
 
-const bits = supportsMemory64() ? 64 : 32;
 const shapes = await load().catch((error) => {
     say("problem", `the page has no library: ${error.message}`);
     throw error;
@@ -52,7 +51,12 @@ function halfOf(twice) {
     return `${sign}${size / 2n}${size % 2n ? ".5" : ""}`;
 }
 
-function showNumbers({ left, removed, start, areaTwo, isConvex }) {
+/** Two edges of a ring in words, or that there are none. */
+function contactText([first, second]) {
+    return first ? `edges ${first.index} and ${second.index} meet, from ${written(first.ends[0])} and ${written(second.ends[0])}` : "none";
+}
+
+function showNumbers({ left, removed, start, contact, areaTwo, isConvex }) {
     const rings = polygons.flat();
     const [given, leftPoints] = [rings.flat().length, left.flat(2).length];
     const gone = Object.entries(removed).filter(([, those]) => those.length > 0);
@@ -63,15 +67,17 @@ function showNumbers({ left, removed, start, areaTwo, isConvex }) {
     say("area", halfOf(areaTwo));
     say("convex", isConvex === undefined ? "-" : isConvex ? "yes" : "no");
     say("start", start ? written(start) : "-");
+    say("contact", contactText(contact));
 }
 
-function draw({ left, removed, start }) {
+function draw({ left, removed, start, contact }) {
     frame = frameOf(polygons, board.clientWidth || undefined);
     const radius = RADIUS * frame.pixel;
     board.replaceChildren(
         ...drawFrame(board, frame),
         element("path", { class: "cleaned", d: pathOf(left.flat()) }),
         element("path", { class: "given", d: pathOf(polygons.flat()) }),
+        element("path", { class: "contact", d: edgesOf(contact.map(({ ends }) => ends)) }),
         marks("kept", left.flat(2), radius * 0.7),
         ...Object.entries(removed).filter(([, points]) => points.length > 0).map(([reason, points]) => marks(reason, points, radius)),
         marks("start", start ? [start] : [], radius * 1.6),
@@ -248,7 +254,7 @@ const actions = {
 };
 for (const [id, action] of Object.entries(actions)) byId(id).addEventListener("click", () => attempt(action));
 
-say("version", `i_shape ${shapes.version}, in WebAssembly with ${bits} bits of memory.`);
+say("version", `i_shape ${shapes.version}, in WebAssembly.`);
 show();
 let width = board.clientWidth;
 new ResizeObserver(() => {

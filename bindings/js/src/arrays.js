@@ -48,10 +48,25 @@ function asOffset(offset, name, place) {
     return Number(offset);
 }
 
+/** Returns the error for offsets that don't divide so many items: the one at `place` is the first that is wrong, or there is none. */
+export function offsetsFault(offsets, place, count, name) {
+    if (!offsets.length) return new OffsetsError(`there are no ${name}`);
+    const fault = offsets[place] < offsets[place - 1] ? "below the one before it" : `above the count, ${count}`;
+    return new OffsetsError(`${name}[${place}] is ${offsets[place]}, ${fault}`, place);
+}
+
 /** Answers the offsets as numbers that are exact. Whether they are in order is left to the library. */
 export function asOffsets(offsets, name = "offsets") {
     if (typeof offsets !== "object" || !Number.isInteger(offsets?.length)) throw new TypeError(`${name} are no array`);
     const numbers = new Float64Array(offsets.length);
     for (let k = 0; k < numbers.length; k++) numbers[k] = asOffset(offsets[k], name, k);
+    return numbers;
+}
+
+/** Returns the offsets as numbers that are exact, if they divide so many items. */
+export function asDividing(offsets, count, name) {
+    const numbers = asOffsets(offsets, name);
+    const place = numbers.findIndex((offset, k) => offset > count || offset < numbers[k - 1]);
+    if (!numbers.length || place >= 0) throw offsetsFault(numbers, place, count, name);
     return numbers;
 }

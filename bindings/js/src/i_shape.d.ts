@@ -32,6 +32,13 @@ export interface GivenPolygons {
     polygonOffsets: Offsets;
 }
 
+/** Which polygons and rings are left, as indices: polygon `polygons[j]` has of its rings those from `rings[offsets[j]]` to before `rings[offsets[j + 1]]`. */
+export interface Indices {
+    polygons: Uint32Array;
+    rings: Uint32Array;
+    offsets: Uint32Array;
+}
+
 /** A fill rule: which winding numbers are filled: odd ones, all but 0, positive ones, or negative ones. */
 export type FillRule = "evenodd" | "nonzero" | "positive" | "negative";
 
@@ -49,6 +56,8 @@ export class UnsafePointError extends IShapeError {
     readonly point: number | undefined;
     /** Its ring; undefined for a call on one contour, and for a point that a call is asked about. */
     readonly ring: number | undefined;
+    /** The feature that has it, in a `FeatureCollection`. */
+    readonly feature: number | undefined;
 }
 
 /** There is no offset, or one is below 0, below the one before it, or above the number of points or rings. */
@@ -60,38 +69,82 @@ export class OffsetsError extends IShapeError {
 /** An allocation in the module's memory failed. */
 export class OutOfMemoryError extends IShapeError {}
 
-/** Whether the engine has memory of 64 bits, which `i_shape64.wasm` needs; `i_shape32.wasm` doesn't. */
-export function supportsMemory64(): boolean;
+/** An object isn't GeoJSON, or has geometries that aren't polygons. */
+export class GeoJsonError extends TypeError {
+    /** The index of the feature, in a `FeatureCollection`. */
+    readonly feature: number | undefined;
+}
+
+/** Nothing is left of a feature that had points. */
+export class CollapsedError extends RangeError {
+    /** The index of the first such feature, in a `FeatureCollection`. */
+    readonly feature: number | undefined;
+    /** How many there are. */
+    readonly count: number;
+}
 
 /** Where a module comes from: its URL, the result of `fetch`, its bytes, or the compiled module. */
 export type Source = URL | Response | BufferSource | WebAssembly.Module;
 
-/**
- * Instantiates the library: by default from the module in the package, that with memory of 64 bits where the engine has such a memory. A fault names the
- * URL, where there is one.
- */
+/** Instantiates the library: by default from the module in the package. A fault names the URL, where there is one. */
 export function load(source?: Source | PromiseLike<Source>): Promise<IShape>;
 
-/** A grid of whole numbers among the numbers of GeoJSON: k stands for k * step. `step` is 1 by default, and `Points` an `Int32Array`. */
+/** A grid of whole numbers among the numbers of GeoJSON: k stands for k * step. `Points` is an `Int32Array` by default. */
 export interface GeoJsonOptions<P extends Points> {
-    step?: number;
+    /** In the unit of the coordinates: 1e-7 of degrees, 0.001 of metres. */
+    step: number;
     Points?: new (length: number) => P;
 }
 
 /**
  * The polygons of a `Polygon`, a `MultiPolygon`, or a `Feature` or a collection of these, each coordinate as the number of steps that is nearest to it, of two
- * the even one. The point that closes a ring, heights and properties are left out.
+ * the even one. The point that closes a ring, heights and properties are left out: `cleanFeatures` keeps properties.
  * @throws {UnsafePointError} a coordinate has too many steps for the safe range
- * @throws {TypeError} it is something else
+ * @throws {GeoJsonError} it is something else
+ * @throws {TypeError} there is no step, or an option of another name
  */
-export function fromGeoJson<P extends Points = Int32Array>(object: object, options?: GeoJsonOptions<P>): Polygons<P>;
-
-/** The polygons as a `MultiPolygon`, each ring closed. */
-export function toGeoJson(polygons: Polygons<Points>, options?: { step?: number }): { type: "MultiPolygon"; coordinates: number[][][][] };
+export function fromGeoJson<P extends Points = Int32Array>(object: object, options: GeoJsonOptions<P>): Polygons<P>;
 
 /**
- * The calls. A contour is read as a cycle: the last point isn't the first one again. No call changes what it is given,
- * and each array of an answer is a new one. A call throws a `TypeError` where an array or a number is of another type or
+ * The polygons as a `MultiPolygon`, each ring closed.
+ * @throws {OffsetsError}
+ * @throws {TypeError} there is no step, or an option of another name
+ */
+export function toGeoJson(polygons: GivenPolygons, options: { step: number }): { type: "MultiPolygon"; coordinates: number[][][][] };
+
+/** How `cleanFeatures` cleans. */
+export interface CleanOptions {
+    /** Of the grid, in the unit of the coordinates: 1e-7 of degrees, 0.001 of metres. */
+    step: number;
+    /** What is done with each ring. Of parcels, `despike` keeps the vertices that neighbours share. */
+    call: "simplify" | "despike";
+    /** What becomes of a feature of which nothing is left: an error, the default, or empty coordinates. */
+    collapsed?: "raise" | "empty";
+}
+
+/** Two edges that are in contact, each by the place of the point from which it leads, `first` before `second`. */
+export interface Contact {
+    first: number;
+    second: number;
+}
+
+/**
+ * The first fault of a polygon, or `"valid"`. Rings and points are named by their places in all offsets and points that the call is given. A ring has collapsed
+ * if it has fewer than three points, or only equal ones. Faults are looked for in this order.
+ */
+export type Validity =
+    | { kind: "valid" }
+    | { kind: "collapsed"; ring: number }
+    /** Two edges are in contact, each by the place of the point from which it leads. */
+    | ({ kind: "contact" } & Contact)
+    /** A vertex of the hole `ring` is outside the outer ring. */
+    | { kind: "holeOutside"; ring: number }
+    /** A vertex of the hole `ring` is within another hole, `other`. */
+    | { kind: "holeWithin"; ring: number; other: number };
+
+/**
+ * The calls. Each serves by itself too, as in `const { simplify } = await load()`. A contour is read as a cycle: the last point isn't the first one again. No
+ * call changes what it is given, and each array of an answer is a new one. A call throws a `TypeError` where an array or a number is of another type or
  * a number isn't whole, a `RangeError` where points have an x without a y or there is no such fill rule, an `OutOfMemoryError` where an allocation in the
  * module's memory fails, an `OffsetsError` where offsets don't divide the points or the rings, and an `UnsafePointError` where
  * a point that it reads isn't safe; `isSafe`, `isSafeRings`, `areaTwo`, `areaTwoRings` and `areaTwoPolygons` take any points.
@@ -130,6 +183,34 @@ export interface IShape {
 
     /** Whether at most two points are left without repeated ones, or the way over them nowhere turns back or bends to both sides. */
     isConvex(contour: Points): boolean;
+
+    /**
+     * Whether there are at least three points, not all equal, and no two edges are in contact: the contour is the boundary of a simple polygon. Points at which
+     * it goes straight on are allowed, unlike by `isSimple`.
+     */
+    isSimplePolygon(contour: Points): boolean;
+
+    /**
+     * The first two edges that share a point other than one at which one of them follows the other, that is, cross, touch or overlap: of the first edge that is
+     * in contact with a later one, and the first such one. Undefined if there are none.
+     */
+    firstContact(contour: Points): Contact | undefined;
+
+    /**
+     * The same of all rings together, within one or between two. The places are those in `points`.
+     * @throws {OffsetsError} tested before whether points are safe
+     */
+    firstContactOfRings(points: Points, offsets: Offsets): Contact | undefined;
+
+    /**
+     * Of each polygon whether it is valid, or its first fault. It is valid if no ring has collapsed, no two edges are in contact, each vertex of each hole is
+     * inside the outer ring, and none is inside another hole. Rings that touch at one point are in contact, unlike by the rules of JSTS and PostGIS. Different
+     * polygons aren't compared.
+     * @throws {OffsetsError} tested before whether points are safe
+     * @throws {UnsafePointError} of rings that no polygon has, too
+     * @throws {OutOfMemoryError}
+     */
+    polygonValidity(points: Points, ringOffsets: Offsets, polygonOffsets: Offsets): Validity[];
 
     /** Whether each point is safe, as all calls but `isSafe`, `isSafeRings`, `areaTwo` and `areaTwoRings` ask. */
     isSafe(points: Points): boolean;
@@ -170,6 +251,9 @@ export interface IShape {
 
     isConvexRings(points: Points, offsets: Offsets): boolean[];
 
+    /** Of each ring what `isSimplePolygon` answers. */
+    areSimplePolygons(points: Points, offsets: Offsets): boolean[];
+
     /** Of each ring what `isSafe` answers. */
     isSafeRings(points: Points, offsets: Offsets): boolean[];
 
@@ -198,11 +282,30 @@ export interface IShape {
      */
     canonicalKeys(points: Points, ringOffsets: Offsets, polygonOffsets?: Offsets, options?: { oriented?: boolean }): string[];
 
-    /** For each ring of `a` the least number of a ring of `b` that has the same key, and -1 where none has. */
+    /** For each ring of `a` the least number of a ring of `b` that has the same key, and -1 where none has, or where the ring collapses. */
     sameRings(a: { points: Points; offsets: Offsets }, b: { points: Points; offsets: Offsets }, options?: { oriented?: boolean }): Int32Array;
 
     /** Whether two lists of polygons have equal unoriented forms, or with `oriented: true` equal canonical ones. */
     samePolygons(a: GivenPolygons, b: GivenPolygons, options?: { oriented?: boolean }): boolean;
+
+    /**
+     * Which polygons and rings are left after a call such as `simplifyRings`, which leaves rings that collapse empty: a polygon is left if its outer ring has
+     * points, or if it has no rings, and a ring of it if it has points. `offsets` are those of that call.
+     * @throws {OffsetsError}
+     */
+    compactPolygons(offsets: Offsets, polygonOffsets: Offsets): Indices;
+
+    /**
+     * A `FeatureCollection`, a `Feature`, or a `Polygon`, a `MultiPolygon` or a collection of these, with each ring rounded onto a grid and cleaned. Holes that
+     * collapse are left out, and polygons whose outer ring does. Features keep their order, `properties`, `id` and other members except `bbox`; a geometry
+     * that is null stays. Heights are left out.
+     * @throws {GeoJsonError} it is something else
+     * @throws {CollapsedError} nothing is left of a feature that had points, unless `collapsed` is "empty"
+     * @throws {UnsafePointError} a coordinate has too many steps for the safe range of 64 bits
+     * @throws {TypeError} there is no step, or an option of another name
+     * @throws {RangeError} there is no such call
+     */
+    cleanFeatures<T extends object>(object: T, options: CleanOptions): T;
 
     /** The sum of what `areaTwo` answers of the rings of each polygon, which wraps as it does: a hole counts against an outer ring that turns the other way. */
     areaTwoPolygons(points: Points, ringOffsets: Offsets, polygonOffsets: Offsets): bigint[];

@@ -1,42 +1,43 @@
 /**
- * Contours of whole-number points, cleaned and measured by the proved calls of i_shape, compiled to WebAssembly.
+ * Contours of whole-number points, cleaned and measured by the calls of i_shape, compiled to WebAssembly from proved source.
  * i_shape.d.ts says what each call takes, answers and throws.
  */
-import { asOffsets, byteLengthOf, checkCoordinate, isInSafeRange, kindOf, lengthOf } from "./arrays.js";
-import { IShapeError, OffsetsError, OutOfMemoryError, UnsafePointError } from "./errors.js";
-import { fromGeoJson, toGeoJson } from "./geojson.js";
+import { asOffsets, byteLengthOf, checkCoordinate, isInSafeRange, kindOf, lengthOf, offsetsFault } from "./arrays.js";
+import { CollapsedError, GeoJsonError, IShapeError, OffsetsError, OutOfMemoryError, UnsafePointError } from "./errors.js";
+import { faultsOf } from "./faults.js";
+import { cleanedFeatures, fromGeoJson, toGeoJson } from "./geojson.js";
 import { compiled } from "./loading.js";
-import { behind, borrow } from "./memory.js";
+import { MOST, borrow } from "./memory.js";
+import { checkedOptions } from "./options.js";
 
-export { IShapeError, OffsetsError, OutOfMemoryError, UnsafePointError, fromGeoJson, toGeoJson };
+export { CollapsedError, GeoJsonError, IShapeError, OffsetsError, OutOfMemoryError, UnsafePointError, fromGeoJson, toGeoJson };
 
 // The codes of include/i_shape.h.
 const UNSAFE = -1;
 const BAD_OFFSETS = -2;
-const NO_WINDING = -(2n ** 63n);
+const NO_WINDING = -(2 ** 31);
 
 // Each at the place of its code.
 export const FILL_RULES = Object.freeze(["evenodd", "nonzero", "positive", "negative"]);
 
-// An empty module with a memory of 64 bits.
-const MEMORY64 = Uint8Array.of(0, 0x61, 0x73, 0x6d, 1, 0, 0, 0, 5, 3, 1, 4, 0);
-
-export function supportsMemory64() {
-    return WebAssembly.validate(MEMORY64);
+/** The module of the package. A bundler that doesn't pack it says nothing, so the error does. */
+async function compiledOwn() {
+    try {
+        return await compiled(new URL("../out/i_shape32.wasm", import.meta.url));
+    } catch (error) {
+        throw new Error(`${error.message}: a bundler may have left the module out, and the README of i_shape shows how to name it`, { cause: error.cause });
+    }
 }
 
-// Each stands as a whole, so that a bundler finds it and packs the file.
-const ownModule = () => supportsMemory64() ? new URL("../out/i_shape64.wasm", import.meta.url) : new URL("../out/i_shape32.wasm", import.meta.url);
-
-export async function load(source = ownModule()) {
-    const { exports } = await WebAssembly.instantiate(await compiled(source));
+export async function load(source) {
+    const { exports } = await WebAssembly.instantiate(await (source === undefined ? compiledOwn() : compiled(source)));
     if (!exports.i_shape_version) throw new TypeError("the module isn't that of i_shape");
     return new IShape(exports);
 }
 
-/** How many points an array has, as the library takes it. */
+/** How many points an array has. */
 function countOf(points) {
-    return BigInt(lengthOf(points) / 2);
+    return lengthOf(points) / 2;
 }
 
 /** What a call is given, copied into the module's memory: points, and the offsets of rings and of polygons. */
@@ -46,12 +47,12 @@ class Given {
         this.kind = kind;
         this.offsets = offsets;
         this.address = loan.copy(points, kind);
-        this.offsetAddresses = offsets.map((each) => loan.copyWide(each));
+        this.offsetAddresses = offsets.map((each) => loan.copyOffsets(each));
     }
 
     /** For each array its address, and how many items it has. */
     get words() {
-        return [this.address, countOf(this.points), ...this.offsets.flatMap((each, k) => [this.offsetAddresses[k], BigInt(each.length)])];
+        return [this.address, countOf(this.points), ...this.offsets.flatMap((each, k) => [this.offsetAddresses[k], each.length])];
     }
 }
 
@@ -88,6 +89,12 @@ function readAreas(loan, address, count, { bits }) {
     return Array.from({ length: count }, (_, k) => BigInt.asIntN(128, (halves[2 * k + 1] << 64n) | halves[2 * k]));
 }
 
+/** Offsets of 32 bits that are in the order of these: a call that is given no points asks for no more. Behind the first that isn't in order they may be any. */
+function ranksOf(offsets) {
+    let rank = 1;
+    return offsets.map((offset, k) => (rank += Math.sign(offset - (offsets[k - 1] ?? offset))));
+}
+
 /** The key of a polygon by those of its rings, of which the outer one comes first. */
 function keyOfPolygon([outer, ...holes]) {
     if (outer === "") return "";
@@ -100,6 +107,10 @@ class IShape {
 
     constructor(exports) {
         this.#exports = exports;
+        // So that a call serves by itself, as in `const { simplify } = await load()`.
+        for (const [name, { value }] of Object.entries(Object.getOwnPropertyDescriptors(IShape.prototype))) {
+            if (value && name !== "constructor") Object.defineProperty(this, name, { value: value.bind(this), configurable: true, writable: true });
+        }
     }
 
     get version() {
@@ -112,7 +123,7 @@ class IShape {
     }
 
     get heldBytes() {
-        return Number(this.#exports.i_shape_held());
+        return this.#exports.i_shape_held() >>> 0;
     }
 
     simplify(contour) {
@@ -143,8 +154,33 @@ class IShape {
         return this.#test("is_convex", contour);
     }
 
+    isSimplePolygon(contour) {
+        return this.#test("is_simple_polygon", contour);
+    }
+
     isSafe(points) {
         return this.#test("is_safe", points);
+    }
+
+    firstContact(contour) {
+        return this.#findContact("first_contact", contour);
+    }
+
+    firstContactOfRings(points, offsets) {
+        return this.#findContact("first_contact_of_rings", points, asOffsets(offsets));
+    }
+
+    polygonValidity(points, ringOffsets, polygonOffsets) {
+        const kind = kindOf(points);
+        const rings = asOffsets(ringOffsets, "ringOffsets");
+        const polygons = asOffsets(polygonOffsets, "polygonOffsets");
+        return borrow(this.#exports, (loan) => {
+            const count = Math.max(polygons.length - 1, 0);
+            const given = new Given(loan, points, kind, rings, polygons);
+            const out = loan.take(12 * count);
+            this.#answered(this.#call("validity_shapes", kind)(...given.words, out, count), given);
+            return faultsOf(loan.read(Uint32Array, out, 3 * count));
+        });
     }
 
     contains(contour, x, y, rule = "evenodd") {
@@ -154,13 +190,12 @@ class IShape {
     windingNumber(contour, x, y) {
         return this.#ask("winding", contour, x, y, [], (answer, given) => {
             if (answer === NO_WINDING) throw this.#unsafePoint(given);
-            return Number(answer);
+            return answer;
         });
     }
 
     windingNumbers(points, offsets, about) {
-        // A contour of n points winds at most n / 2 times, and the memory has no room for 2^32 points.
-        return this.#askMany("windings", points, offsets, about, [], 8, (loan, out, count) => loan.readNarrow(Int32Array, out, count));
+        return this.#askMany("windings", points, offsets, about, [], 4, (loan, out, count) => loan.read(Int32Array, out, count));
     }
 
     containsPoints(points, offsets, about, rule = "evenodd") {
@@ -192,6 +227,10 @@ class IShape {
         return this.#testRings("is_convex_contours", points, offsets);
     }
 
+    areSimplePolygons(points, offsets) {
+        return this.#testRings("are_simple_polygons", points, offsets);
+    }
+
     isSafeRings(points, offsets) {
         return this.#testRings("is_safe_contours", points, offsets);
     }
@@ -216,25 +255,50 @@ class IShape {
         return this.#cleanRings("canonical_unoriented_contours", points, offsets);
     }
 
-    canonicalKeys(points, ringOffsets, polygonOffsets, { oriented = false } = {}) {
+    canonicalKeys(points, ringOffsets, polygonOffsets, options = {}) {
+        const { oriented = false } = checkedOptions("canonicalKeys", options, ["oriented"]);
         const forms = oriented ? this.canonicalRings(points, ringOffsets) : this.canonicalUnorientedRings(points, ringOffsets);
         const ends = forms.offsets;
         const keys = Array.from({ length: ends.length - 1 }, (_, k) => forms.points.subarray(2 * ends[k], 2 * ends[k + 1]).join(" "));
         return polygonOffsets ? this.#cut(keys, polygonOffsets).map(keyOfPolygon) : keys;
     }
 
-    sameRings(a, b, options) {
+    sameRings(a, b, options = {}) {
+        checkedOptions("sameRings", options, ["oriented"]);
         const [ours, theirs] = [a, b].map(({ points, offsets }) => this.canonicalKeys(points, offsets, undefined, options));
         const places = new Map();
-        theirs.forEach((key, place) => places.has(key) || places.set(key, place));
+        // Rings that collapse aren't the same: nothing is left to compare.
+        theirs.forEach((key, place) => key === "" || places.has(key) || places.set(key, place));
         return Int32Array.from(ours, (key) => places.get(key) ?? -1);
     }
 
-    samePolygons(a, b, { oriented = false } = {}) {
+    samePolygons(a, b, options = {}) {
+        const { oriented = false } = checkedOptions("samePolygons", options, ["oriented"]);
         const [ours, theirs] = [a, b].map(({ points, ringOffsets, polygonOffsets }) =>
             this.#cleanPolygons(oriented ? "canonical_shapes" : "canonical_unoriented_shapes", points, ringOffsets, polygonOffsets));
         const areEqual = (name) => ours[name].length === theirs[name].length && ours[name].every((item, k) => item == theirs[name][k]); // a bigint too
         return ["polygonOffsets", "ringOffsets", "points"].every(areEqual);
+    }
+
+    compactPolygons(offsets, polygonOffsets) {
+        const rings = asOffsets(offsets);
+        const polygons = asOffsets(polygonOffsets, "polygonOffsets");
+        return borrow(this.#exports, (loan) => {
+            const given = [ranksOf(rings), polygons].map((each) => [loan.copyOffsets(each), each.length]);
+            const outs = [rings.length - 1, polygons.length - 1, polygons.length].map((count) => Math.max(count, 0)).map((count) => [loan.take(4 * count), count]);
+            const left = this.#exports.i_shape_compact_shapes(...given.flat(), ...outs.flat());
+            if (left === BAD_OFFSETS) {
+                this.#checkParting(rings, given[0][0], MOST, "offsets");
+                this.#checkParting(polygons, given[1][0], rings.length - 1, "polygonOffsets");
+            }
+            const [ringsLeft, polygonsLeft, ends] = outs.map(([address]) => (count) => loan.read(Uint32Array, address, count));
+            const itsOffsets = ends(left + 1);
+            return { polygons: polygonsLeft(left), rings: ringsLeft(itsOffsets[left]), offsets: itsOffsets };
+        });
+    }
+
+    cleanFeatures(object, options = {}) {
+        return cleanedFeatures(this, object, options);
     }
 
     areaTwoPolygons(points, ringOffsets, polygonOffsets) {
@@ -267,24 +331,23 @@ class IShape {
         return this.#exports[`i_shape_${name}_i${bits}`];
     }
 
-    /** Answers what a call has answered, as a number, or throws what its code means. */
+    /** Answers what a call has answered, or throws what its code means. */
     #answered(answer, given) {
-        const number = Number(answer);
-        if (number === UNSAFE) throw this.#unsafePoint(given);
-        if (number === BAD_OFFSETS) this.#checkOffsets(given);
-        if (number < 0) throw new OutOfMemoryError();
-        return number;
+        if (answer === UNSAFE) throw this.#unsafePoint(given);
+        if (answer === BAD_OFFSETS) this.#checkOffsets(given);
+        if (answer < 0) throw new OutOfMemoryError();
+        return answer;
     }
 
     /** The place of the first unsafe point among so many at an address. */
     #firstUnsafe(address, count, kind) {
-        return Number(this.#call("first_unsafe", kind)(address, BigInt(count)));
+        return this.#call("first_unsafe", kind)(address, count);
     }
 
     /** The error for a point of a contour, or of a ring, that isn't safe. */
     #unsafePoint({ points, kind, address, offsets: [rings] }) {
         const [first, end] = [rings?.[0] ?? 0, rings?.at(-1) ?? lengthOf(points) / 2];
-        const place = first + this.#firstUnsafe(behind(address, 2 * first * kind.Points.BYTES_PER_ELEMENT), end - first, kind);
+        const place = first + this.#firstUnsafe(address + 2 * first * kind.Points.BYTES_PER_ELEMENT, end - first, kind);
         const ring = rings?.findLastIndex((offset) => offset <= place);
         const where = `${ring === undefined ? "" : `ring ${ring}: `}point ${place}`;
         return new UnsafePointError(`${where} is (${points[2 * place]}, ${points[2 * place + 1]}), ${outside(kind)}`, place, ring);
@@ -298,17 +361,14 @@ class IShape {
 
     /** Throws where offsets at an address don't divide so many items. */
     #checkParting(offsets, address, count, name) {
-        if (!offsets.length) throw new OffsetsError(`there are no ${name}`);
-        const place = Number(this.#exports.i_shape_first_bad_offset(BigInt(count), address, BigInt(offsets.length)));
-        if (place === offsets.length) return;
-        const fault = offsets[place] < offsets[place - 1] ? "below the one before it" : `above the count, ${count}`;
-        throw new OffsetsError(`${name}[${place}] is ${offsets[place]}, ${fault}`, place);
+        const place = this.#exports.i_shape_first_bad_offset(count, address, offsets.length);
+        if (!offsets.length || place < offsets.length) throw offsetsFault(offsets, place, count, name);
     }
 
     /** Parts what there is of each ring into polygons. */
     #cut(items, polygonOffsets) {
         const offsets = asOffsets(polygonOffsets, "polygonOffsets");
-        borrow(this.#exports, (loan) => this.#checkParting(offsets, loan.copyWide(offsets), items.length, "polygonOffsets"));
+        borrow(this.#exports, (loan) => this.#checkParting(offsets, loan.copyOffsets(offsets), items.length, "polygonOffsets"));
         return Array.from(offsets.subarray(1), (end, k) => items.slice(offsets[k], end));
     }
 
@@ -327,6 +387,19 @@ class IShape {
         return borrow(this.#exports, (loan) => {
             const given = new Given(loan, points, kind);
             return this.#answered(this.#call(name, kind)(...given.words), given) === 1;
+        });
+    }
+
+    /** The places of two edges, or undefined where none are in contact. */
+    #findContact(name, points, ...offsets) {
+        const kind = kindOf(points);
+        return borrow(this.#exports, (loan) => {
+            const given = new Given(loan, points, kind, ...offsets);
+            const out = loan.take(8);
+            const found = this.#answered(this.#call(name, kind)(...given.words, out, 2), given);
+            if (!found) return undefined;
+            const [first, second] = loan.read(Uint32Array, out, 2);
+            return { first, second };
         });
     }
 
@@ -350,8 +423,8 @@ class IShape {
             const given = new Given(loan, points, kind, from);
             const asked = new Given(loan, about, kind);
             const out = loan.take(bytes * count);
-            const answer = this.#call(name, kind)(...given.words, ...asked.words, ...rule, out, BigInt(count));
-            const unsafe = Number(answer) === UNSAFE ? this.#firstUnsafe(asked.address, count, kind) : count;
+            const answer = this.#call(name, kind)(...given.words, ...asked.words, ...rule, out, count);
+            const unsafe = answer === UNSAFE ? this.#firstUnsafe(asked.address, count, kind) : count;
             if (unsafe < count) checkAsked(about[2 * unsafe], about[2 * unsafe + 1], kind);
             this.#answered(answer, given);
             return read(loan, out, count);
@@ -370,7 +443,7 @@ class IShape {
             const count = Math.max(from.length - 1, 0);
             const given = new Given(loan, points, kind, from);
             const out = loan.take(bytes * count);
-            this.#answered(this.#call(name, kind)(...given.words, out, BigInt(count)), given);
+            this.#answered(this.#call(name, kind)(...given.words, out, count), given);
             return read(loan, out, count, kind);
         });
     }
@@ -381,9 +454,9 @@ class IShape {
         return borrow(this.#exports, (loan) => {
             const given = new Given(loan, points, kind, from);
             const out = loan.take(byteLengthOf(points));
-            const outOffsets = loan.take(8 * from.length);
-            const left = this.#answered(this.#call(name, kind)(...given.words, out, countOf(points), outOffsets, BigInt(from.length)), given);
-            return { points: loan.read(kind.Points, out, 2 * left), offsets: loan.readNarrow(Uint32Array, outOffsets, from.length) };
+            const outOffsets = loan.take(4 * from.length);
+            const left = this.#answered(this.#call(name, kind)(...given.words, out, countOf(points), outOffsets, from.length), given);
+            return { points: loan.read(kind.Points, out, 2 * left), offsets: loan.read(Uint32Array, outOffsets, from.length) };
         });
     }
 
@@ -394,12 +467,12 @@ class IShape {
         return borrow(this.#exports, (loan) => {
             const given = new Given(loan, points, kind, rings, polygons);
             const out = loan.take(byteLengthOf(points));
-            const outRings = loan.take(8 * rings.length);
-            const outPolygons = loan.take(8 * polygons.length);
+            const outRings = loan.take(4 * rings.length);
+            const outPolygons = loan.take(4 * polygons.length);
             const left = this.#answered(this.#call(name, kind)(
-                ...given.words, out, countOf(points), outRings, BigInt(rings.length), outPolygons, BigInt(polygons.length)), given);
-            const leftPolygons = loan.readNarrow(Uint32Array, outPolygons, left + 1);
-            const leftRings = loan.readNarrow(Uint32Array, outRings, leftPolygons[left] + 1);
+                ...given.words, out, countOf(points), outRings, rings.length, outPolygons, polygons.length), given);
+            const leftPolygons = loan.read(Uint32Array, outPolygons, left + 1);
+            const leftRings = loan.read(Uint32Array, outRings, leftPolygons[left] + 1);
             return { points: loan.read(kind.Points, out, 2 * leftRings.at(-1)), ringOffsets: leftRings, polygonOffsets: leftPolygons };
         });
     }

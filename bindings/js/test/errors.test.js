@@ -1,13 +1,13 @@
 import assert from "node:assert/strict";
 import { describe, test } from "node:test";
 import { IShapeError, OffsetsError, OutOfMemoryError, UnsafePointError, load } from "../src/i_shape.js";
-import { bytesOf, describeModules, describeWidths } from "./support/modules.js";
+import { MODULE, describeWidths } from "./support/modules.js";
 
-const ONE = ["simplify", "despike", "canonical", "canonicalUnoriented", "isSimple", "hasNoSpikes", "isConvex"];
+const ONE = ["simplify", "despike", "canonical", "canonicalUnoriented", "isSimple", "hasNoSpikes", "isConvex", "isSimplePolygon", "firstContact"];
 const RINGS = ["simplifyRings", "despikeRings", "canonicalRings", "canonicalUnorientedRings"];
-const RING_TESTS = ["isSimpleRings", "hasNoSpikesRings", "isConvexRings"];
+const RING_TESTS = ["isSimpleRings", "hasNoSpikesRings", "isConvexRings", "areSimplePolygons", "firstContactOfRings"];
 const RINGS_OF_ANY_POINTS = ["isSafeRings", "areaTwoRings"];
-const POLYGONS = ["simplifyPolygons", "removeSpikes", "canonicalPolygons", "canonicalUnorientedPolygons"];
+const POLYGONS = ["simplifyPolygons", "removeSpikes", "canonicalPolygons", "canonicalUnorientedPolygons", "polygonValidity"];
 const ABOUT_MANY = ["windingNumbers", "containsPoints", "locate"];
 const SQUARE = [0, 0, 4, 0, 4, 4, 0, 4];
 
@@ -18,6 +18,8 @@ const WRONG_OFFSETS = [
     { name: "a last offset above the count", offsets: [0, 5], place: 1 },
     { name: "an offset below 0", offsets: [-1, 4], place: 0 },
     { name: "an offset of 2^32", offsets: [0, 2 ** 32], place: 1 },
+    { name: "an offset that is 4 modulo 2^32", offsets: [0, 2 ** 32 + 4, 4], place: 1 },
+    { name: "an offset of 2^32 behind one that isn't in order", offsets: [0, 4, 3, 2 ** 32], place: 2 },
     { name: "an offset of 2^64", offsets: [0n, 2n ** 64n], place: 1 },
 ];
 
@@ -116,7 +118,8 @@ function detached() {
     return points;
 }
 
-describeModules((shapes) => {
+describe("arrays of another type", async () => {
+    const shapes = await load(MODULE);
     for (const [name, given] of [
         ["an array of numbers", SQUARE],
         ["floats", Float64Array.from(SQUARE)],
@@ -150,13 +153,12 @@ describeModules((shapes) => {
 
 describe("load", () => {
     test("each kind of source", async () => {
-        const bytes = bytesOf(32);
         const sources = {
-            "a Buffer": bytes,
-            "an ArrayBuffer": Uint8Array.from(bytes).buffer,
-            "a module": await WebAssembly.compile(bytes),
-            "a response": new Response(bytes),
-            "a promise of one": Promise.resolve(new Response(bytes)),
+            "a Buffer": MODULE,
+            "an ArrayBuffer": Uint8Array.from(MODULE).buffer,
+            "a module": await WebAssembly.compile(MODULE),
+            "a response": new Response(MODULE),
+            "a promise of one": Promise.resolve(new Response(MODULE)),
         };
         for (const [name, source] of Object.entries(sources)) assert.equal((await load(source)).version, "0.2.0", name);
     });

@@ -1,11 +1,11 @@
-/** The package in Debian's Firefox, beside Node: both modules over random contours at each width. Without firefox-esr, or the modules, it is skipped. */
+/** The package in Debian's Firefox, beside Node: random contours at each width. Without firefox-esr, or the module, it is skipped. */
 import assert from "node:assert/strict";
 import { existsSync } from "node:fs";
 import { test } from "node:test";
 import { fileURLToPath } from "node:url";
 import { load } from "../src/i_shape.js";
 import { hasFirefox, readInFirefox } from "./support/firefox.js";
-import { bytesOf } from "./support/modules.js";
+import { MODULE } from "./support/modules.js";
 
 const FOLDER = fileURLToPath(new URL("..", import.meta.url));
 const skip = (!hasFirefox && "there is no firefox-esr") || (!existsSync(`${FOLDER}/out/i_shape32.wasm`) && "`make wasm` builds what it loads");
@@ -26,15 +26,12 @@ function answers(shapes) {
     return lines;
 }
 
-test("each module in Firefox, beside Node", { skip }, async () => {
+test("the module in Firefox, beside Node", { skip }, async () => {
     const told = await readInFirefox(
         FOLDER,
-        `const { load, supportsMemory64 } = await import("/src/i_shape.js");
+        `const { load } = await import("/src/i_shape.js");
         const answers = ${answers};
-        const of = async (bits) => answers(await load(fetch("/out/i_shape" + bits + ".wasm")));
-        return { 32: await of(32), 64: supportsMemory64() ? await of(64) : "no memory of 64 bits" };`,
+        return answers(await load());`,
     );
-    const expected = answers(await load(bytesOf(32)));
-    assert.deepEqual(told[32], expected);
-    assert.deepEqual(told[64], expected);
+    assert.deepEqual(told, answers(await load(MODULE)));
 });

@@ -2,8 +2,8 @@
 import assert from "node:assert/strict";
 import { readFileSync } from "node:fs";
 import { describe, test } from "node:test";
-import { fromGeoJson, toGeoJson } from "../src/i_shape.js";
-import { describeWidths } from "./support/modules.js";
+import { fromGeoJson, load, toGeoJson } from "../src/i_shape.js";
+import { MODULE, describeWidths } from "./support/modules.js";
 
 const SQUARE = { type: "Polygon", coordinates: [[[0, 0, 7], [0.4, 0, 7], [0.4, 0.4, 7], [0, 0.4, 7], [0, 0, 7]], [[0.1, 0.1], [0.1, 0.3], [0.3, 0.3], [0.1, 0.1]]] };
 const cycle = [];
@@ -30,7 +30,7 @@ describe("GeoJSON", () => {
     test("halves are rounded to the even step, and the step may be any number", () => {
         const triangle = (x) => ({ type: "Polygon", coordinates: [[[x, 0], [9, 0], [9, 9]]] });
         for (const [x, wanted] of [[0.5, 0], [1.5, 2], [2.5, 2], [-0.5, 0], [-1.5, -2], [-2.5, -2]]) {
-            assert.equal(fromGeoJson(triangle(x)).points[0], wanted);
+            assert.equal(fromGeoJson(triangle(x), { step: 1 }).points[0], wanted);
         }
         const polygons = fromGeoJson(triangle(3), { step: 1.5, Points: BigInt64Array });
         assert.deepEqual(polygons.points, BigInt64Array.of(2n, 0n, 6n, 0n, 6n, 6n));
@@ -39,12 +39,47 @@ describe("GeoJSON", () => {
 
     test("a coordinate out of the safe range is named", () => {
         const far = { type: "Polygon", coordinates: [[[0, 0], [1, 0], [1, 200]]] };
-        assert.throws(() => fromGeoJson(far, { step: 1e-7 }), { name: "UnsafePointError", code: -1, point: 2, ring: 0, message: /\(1, 200\), 2000000000 steps/ });
+        assert.throws(() => fromGeoJson(far, { step: 1e-7 }), { name: "UnsafePointError", code: -1, point: 2, ring: 0, message: /^ring 0: point 2 is \(1, 200\), 2000000000 steps/ });
+        const features = [{ type: "Feature", geometry: SQUARE }, { type: "Feature", geometry: null }, { type: "Feature", geometry: far }];
+        assert.throws(() => fromGeoJson({ type: "FeatureCollection", features }, { step: 1e-7 }),
+            { name: "UnsafePointError", point: 9, ring: 2, feature: 2, message: /^feature 2, ring 2: point 9 is \(1, 200\)/ });
     });
+
+    test("the feature that isn't read is named", () => {
+        const line = { type: "Feature", geometry: { type: "LineString", coordinates: [] } };
+        const collection = { type: "FeatureCollection", features: [{ type: "Feature", geometry: null }, line] };
+        assert.throws(() => fromGeoJson(collection, { step: 1 }), { name: "GeoJsonError", feature: 1, message: "feature 1: GeoJSON: a LineString is no polygon" });
+        assert.throws(() => fromGeoJson(line, { step: 1 }), { name: "GeoJsonError", feature: undefined, message: "GeoJSON: a LineString is no polygon" });
+    });
+
+    for (const [name, call, message] of [
+        ["no options", () => fromGeoJson(SQUARE), /^fromGeoJson has no step: .*degrees/],
+        ["no step", () => fromGeoJson(SQUARE, { Points: Int32Array }), /^fromGeoJson has no step/],
+        ["a step of another name", () => fromGeoJson(SQUARE, { Step: 1e-7 }), /^fromGeoJson has no option Step: its options are step, Points$/],
+        ["a step alone", () => fromGeoJson(SQUARE, 1e-7), /^the options of fromGeoJson are 1e-7, and no object$/],
+        ["no step on the way back", () => toGeoJson(fromGeoJson(SQUARE, { step: 1 })), /^toGeoJson has no step/],
+        ["another option on the way back", () => toGeoJson(fromGeoJson(SQUARE, { step: 1 }), { step: 1, Points: Int32Array }), /^toGeoJson has no option Points/],
+    ]) {
+        test(`${name} is an error`, () => assert.throws(call, { name: "TypeError", message }));
+    }
+
+    for (const [ringOffsets, polygonOffsets, place, message] of [
+        [[0, 4], [0, 1], 1, "ringOffsets[1] is 4, above the count, 3"],
+        [[2, 1], [0, 1], 1, "ringOffsets[1] is 1, below the one before it"],
+        [[], [0], undefined, "there are no ringOffsets"],
+        [[0, 3], [0, 2], 1, "polygonOffsets[1] is 2, above the count, 1"],
+        [[0, 3], [], undefined, "there are no polygonOffsets"],
+        [[0, 3], [-1, 1], 0, "polygonOffsets[0] is -1: there are not so many items"],
+    ]) {
+        test(`offsets that don't divide what there is: ${message}`, () => assert.throws(() =>
+            toGeoJson({ points: Int32Array.of(0, 0, 4, 0, 4, 4), ringOffsets, polygonOffsets }, { step: 1 }), { name: "OffsetsError", code: -2, place, message }));
+    }
 
     for (const [name, object, message] of [
         ["a point", { type: "Point", coordinates: [0, 0] }, /a Point is no polygon/],
-        ["nothing", undefined, /a undefined is no polygon/],
+        ["nothing", undefined, /undefined, which has no type, is no polygon/],
+        ["an object without a type", { coordinates: [] }, /\{"coordinates":\[\]\}, which has no type, is no polygon/],
+        ["a text", '{"type": "Polygon"}', /parse it first/],
         ["a name of a method", { type: "toString" }, /a toString is no polygon/],
         ["a ring that is no list", { type: "Polygon", coordinates: [3] }, /3 is no list of positions/],
         ["a position of one number", { type: "Polygon", coordinates: [[[1]]] }, /\[1\] is no position/],
@@ -56,10 +91,100 @@ describe("GeoJSON", () => {
         ["a polygon with a hole in its list", { type: "Polygon", coordinates: [, [[1, 1]]] }, /undefined is no list of positions/],
         ["a position within itself", { type: "Polygon", coordinates: [[cycle]] }, /\[object Array\] is no position/],
     ]) {
-        test(`${name} isn't read`, () => assert.throws(() => fromGeoJson(object), { name: "TypeError", message }));
+        test(`${name} isn't read`, () => {
+            const thrown = (error) => error instanceof TypeError && error.name === "GeoJsonError" && message.test(error.message);
+            assert.throws(() => fromGeoJson(object, { step: 1 }), thrown);
+        });
     }
 
     for (const step of [0, -1, NaN, Infinity, "1"]) test(`no step is ${step}`, () => assert.throws(() => fromGeoJson(SQUARE, { step }), { name: "RangeError" }));
+});
+
+const STRAIGHT = [[0, 0], [2, 0], [4, 0], [4, 4], [0, 4], [0, 0]];
+const SPIKED = [[0, 0], [2, 0], [4, 0], [4, 4], [4, 9], [4, 4], [0, 4], [0, 0]];
+const FLAT = [[1, 1], [2, 2], [3, 3], [1, 1]];
+const HOLE = [[1, 1], [1, 2], [2, 2], [1, 1]];
+const PLAIN = [[0, 0], [4, 0], [4, 4], [0, 4], [0, 0]];
+
+describe("cleanFeatures", async () => {
+    const shapes = await load(MODULE);
+    const given = {
+        type: "FeatureCollection", name: "parcels", bbox: [0, 0, 9, 9],
+        features: [
+            { type: "Feature", id: "a", properties: { owner: 7 }, geometry: { type: "Polygon", coordinates: [STRAIGHT, FLAT, HOLE] } },
+            { type: "Feature", properties: null, geometry: null },
+            { type: "Feature", id: 3, properties: {}, bbox: [0, 0, 9, 9], geometry: { type: "MultiPolygon", coordinates: [[FLAT], [SPIKED.map((position) => [...position, 5])]] } },
+            { type: "Feature", properties: { empty: true }, geometry: { type: "Polygon", coordinates: [] } },
+        ],
+    };
+    const cleaned = (call, ring) => ({
+        type: "FeatureCollection", name: "parcels",
+        features: [
+            { type: "Feature", id: "a", properties: { owner: 7 }, geometry: { type: "Polygon", coordinates: [call === "despike" ? STRAIGHT : PLAIN, HOLE] } },
+            { type: "Feature", properties: null, geometry: null },
+            { type: "Feature", id: 3, properties: {}, geometry: { type: "MultiPolygon", coordinates: [[ring]] } },
+            { type: "Feature", properties: { empty: true }, geometry: { type: "Polygon", coordinates: [] } },
+        ],
+    });
+
+    for (const [call, ring] of [["simplify", PLAIN], ["despike", STRAIGHT]]) {
+        test(`${call}: features keep what they have`, () => {
+            const before = JSON.stringify(given);
+            assert.deepEqual(shapes.cleanFeatures(given, { step: 1, call }), cleaned(call, ring));
+            assert.equal(JSON.stringify(given), before);
+        });
+    }
+
+    test("what is no collection stays what it is", () => {
+        const feature = { type: "Feature", id: 1, geometry: { type: "GeometryCollection", geometries: [{ type: "Polygon", coordinates: [STRAIGHT] }] } };
+        const options = { step: 0.5, call: "simplify" };
+        assert.deepEqual(shapes.cleanFeatures(feature, options).geometry.geometries[0].coordinates, [PLAIN]);
+        assert.deepEqual(shapes.cleanFeatures({ type: "Polygon", coordinates: [STRAIGHT] }, options), { type: "Polygon", coordinates: [PLAIN] });
+        assert.throws(() => shapes.cleanFeatures({ type: "Polygon", coordinates: [FLAT] }, options), { name: "CollapsedError", feature: undefined, count: 1 });
+    });
+
+    test("coordinates that take 64 bits", () => {
+        const wide = { type: "Polygon", coordinates: [[[0, 0], [90, 0], [180, 0], [180, 90], [0, 0]]] };
+        assert.deepEqual(shapes.cleanFeatures(wide, { step: 1e-9, call: "simplify" }).coordinates, [[[0, 0], [180, 0], [180, 90], [0, 0]]]);
+        const far = { type: "Polygon", coordinates: [[[0, 0], [1e300, 0], [1, 1]]] };
+        assert.throws(() => shapes.cleanFeatures(far, { step: 1, call: "simplify" }), { name: "UnsafePointError", point: 1 });
+    });
+
+    test("a feature that collapses", () => {
+        const features = [0, 1, 2].map((id) => ({ type: "Feature", id, geometry: { type: "Polygon", coordinates: [id ? FLAT : PLAIN] } }));
+        const collection = { type: "FeatureCollection", features };
+        assert.throws(() => shapes.cleanFeatures(collection, { step: 1, call: "despike" }), (error) => error instanceof RangeError && error.name === "CollapsedError"
+            && error.feature === 1 && error.count === 2 && error.message.startsWith("feature 1: nothing is left of it, nor of 1 more of 3 features; is the step"));
+        const left = shapes.cleanFeatures(collection, { step: 1, call: "despike", collapsed: "empty" });
+        assert.deepEqual(left.features.map(({ id, geometry }) => [id, geometry.coordinates.length]), [[0, 1], [1, 0], [2, 0]]);
+    });
+
+    for (const [options, name, message] of [
+        [undefined, "TypeError", /^cleanFeatures has no step/],
+        [{ step: 1 }, "RangeError", /^the call is undefined, and none of simplify, despike$/],
+        [{ step: 1, call: "toString" }, "RangeError", /^the call is toString/],
+        [{ step: 1, call: "simplify", collapsed: "drop" }, "RangeError", /^collapsed is drop/],
+        [{ step: 1, call: "simplify", Points: Int32Array }, "TypeError", /^cleanFeatures has no option Points/],
+    ]) {
+        test(`cleanFeatures: ${message}`, () => assert.throws(() => shapes.cleanFeatures(given, options), { name, message }));
+    }
+
+    test("a call by itself", () => {
+        const { simplify, canonicalKeys, cleanFeatures, version } = shapes;
+        assert.deepEqual(simplify(Int16Array.of(0, 0, 2, 0, 4, 0, 4, 4)), Int16Array.of(0, 0, 4, 0, 4, 4));
+        assert.deepEqual(canonicalKeys(Int16Array.of(4, 4, 0, 0, 4, 0), [0, 3]), ["0 0 4 0 4 4"]);
+        assert.deepEqual(cleanFeatures({ type: "MultiPolygon", coordinates: [] }, { step: 1, call: "simplify" }).coordinates, []);
+        assert.equal(version, shapes.version);
+    });
+
+    test("an option of another name is an error", () => {
+        const rings = { points: Int32Array.of(), offsets: [0] };
+        const polygons = { points: Int32Array.of(), ringOffsets: [0], polygonOffsets: [0] };
+        for (const call of [() => shapes.canonicalKeys(rings.points, [0], undefined, { orient: true }), () => shapes.sameRings(rings, rings, { orient: true }),
+            () => shapes.samePolygons(polygons, polygons, { orient: true })]) {
+            assert.throws(call, { name: "TypeError", message: /has no option orient: its options are oriented$/ });
+        }
+    });
 });
 
 describeWidths((shapes, { points }) => {
@@ -108,6 +233,8 @@ describeWidths((shapes, { points }) => {
         const one = { points: Int32Array.of(9, 9, 9, 0, 0, 9, 4, 4, 4, 0, 0, 0, 0, 4), offsets: [0, 3, 7] };
         assert.deepEqual(shapes.sameRings(rings, one), Int32Array.of(1, 1, 1, -1));
         assert.deepEqual(shapes.sameRings(rings, one, { oriented: true }), Int32Array.of(-1, -1, 1, -1));
+        // A ring that collapses isn't the same as itself, nor as another one.
+        assert.deepEqual(shapes.sameRings(rings, rings), Int32Array.of(0, 0, 0, -1));
         const polygons = (offsets) => ({ points: RINGS, ringOffsets: OFFSETS, polygonOffsets: offsets });
         assert.equal(shapes.samePolygons(polygons([0, 1]), { points: Int16Array.of(4, 0, 4, 4, 0, 4, 0, 0), ringOffsets: [0, 4], polygonOffsets: [0, 1] }), true);
         assert.equal(shapes.samePolygons(polygons([0, 1]), polygons([2, 3])), true);

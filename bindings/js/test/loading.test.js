@@ -1,7 +1,7 @@
 /** How the module is found, and what is said where it isn't. The recipes of the package run in Chromium. */
 import assert from "node:assert/strict";
 import { execFileSync, spawnSync } from "node:child_process";
-import { mkdirSync, mkdtempSync, rmSync, symlinkSync, writeFileSync } from "node:fs";
+import { mkdirSync, mkdtempSync, readdirSync, rmSync, symlinkSync, writeFileSync } from "node:fs";
 import os from "node:os";
 import path from "node:path";
 import { after, before, describe, test } from "node:test";
@@ -29,6 +29,31 @@ const FILES = {
         };`],
     "/page.wasm": ["text/html", "<!DOCTYPE html>"],
 };
+
+/** An app of a bundler that has the module from `source`. */
+function appOf(source) {
+    return `
+        import { load } from "i_shape";
+        import module from "i_shape/i_shape32.wasm";
+        const shapes = await load(${source});
+        console.log(shapes.simplify(${CONTOUR}).join(" "));`;
+}
+
+/** Hands a folder in which the package is installed to `use`. */
+function inApp(use) {
+    const folder = mkdtempSync(path.join(os.tmpdir(), "bundled-"));
+    try {
+        mkdirSync(path.join(folder, "node_modules"));
+        symlinkSync(PACKAGE, path.join(folder, "node_modules/i_shape"));
+        use(folder);
+    } finally {
+        rmSync(folder, { recursive: true });
+    }
+}
+
+function bundle(folder, ...words) {
+    execFileSync("esbuild", ["app.js", "--bundle", "--format=esm", "--outfile=out/app.mjs", "--log-level=warning", ...words], { cwd: folder });
+}
 
 /** Answers a request for one of these, under the policy. */
 function answer(request, response) {
@@ -62,23 +87,35 @@ describe("loading", () => {
         await assert.rejects(load(url), (error) => error.message.startsWith(url.href) && error.cause.code === "ENOENT");
     });
 
-    test("bundled by esbuild", { skip: spawnSync("esbuild", ["--version"]).status !== 0 && "there is no esbuild" }, () => {
-        const folder = mkdtempSync(path.join(os.tmpdir(), "bundled-"));
-        try {
-            mkdirSync(path.join(folder, "node_modules"));
-            symlinkSync(PACKAGE, path.join(folder, "node_modules/i_shape"));
-            writeFileSync(path.join(folder, "app.js"), `
-                import { load } from "i_shape";
-                import module from "i_shape/i_shape32.wasm";
-                const shapes = await load(new URL(module, import.meta.url));
-                console.log(shapes.simplify(${CONTOUR}).join(" "));`);
-            execFileSync("esbuild", ["app.js", "--bundle", "--format=esm", "--outfile=out/app.mjs", "--loader:.wasm=file", "--log-level=warning"], { cwd: folder });
+    const bundling = { skip: spawnSync("esbuild", ["--version"]).status !== 0 && "there is no esbuild" };
+    for (const [loader, source, packed] of [
+        ["file", "new URL(module, import.meta.url)", 2],
+        ["binary", "module", 1],
+    ]) {
+        test(`bundled by esbuild, with the loader ${loader}`, bundling, () => inApp((folder) => {
+            writeFileSync(path.join(folder, "app.js"), appOf(source));
+            bundle(folder, `--loader:.wasm=${loader}`);
             rmSync(path.join(folder, "node_modules"), { recursive: true });
             assert.equal(execFileSync(process.execPath, ["out/app.mjs"], { cwd: folder, encoding: "utf8" }), "0 0 4 0 4 4 0 4\n");
-        } finally {
-            rmSync(folder, { recursive: true });
-        }
-    });
+            assert.equal(readdirSync(path.join(folder, "out")).length, packed);
+        }));
+    }
+
+    test("bundled by esbuild without the module", bundling, () => inApp((folder) => {
+        writeFileSync(path.join(folder, "app.js"), 'import { load } from "i_shape"; await load();');
+        bundle(folder);
+        const { status, stderr } = spawnSync(process.execPath, ["out/app.mjs"], { cwd: folder, encoding: "utf8" });
+        assert.equal(status, 1);
+        assert.match(stderr, /i_shape\d\d\.wasm: ENOENT.*: a bundler may have left the module out, and the README of i_shape shows how to name it/);
+    }));
+
+    test("imported by TypeScript", { skip: spawnSync("tsc", ["--version"]).status !== 0 && "there is no tsc" }, () => inApp((folder) => {
+        writeFileSync(path.join(folder, "package.json"), '{ "type": "module" }');
+        writeFileSync(path.join(folder, "app.ts"), appOf("new URL(module, import.meta.url)"));
+        const words = ["--noEmit", "--strict", "--target", "es2022", "--lib", "es2022,dom", "--module", "node16", "--moduleResolution", "node16", "app.ts"];
+        const { status, stdout } = spawnSync("tsc", words, { cwd: folder, encoding: "utf8" });
+        assert.equal(status, 0, stdout);
+    }));
 
     test("a page and its worker, under a strict policy", { skip: !hasChromium && "there is no chromium" }, async () => {
         const browser = await Browser.open();

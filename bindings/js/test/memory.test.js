@@ -1,9 +1,9 @@
 import assert from "node:assert/strict";
-import { test } from "node:test";
+import { describe, test } from "node:test";
 import { OutOfMemoryError, load } from "../src/i_shape.js";
 import { borrow } from "../src/memory.js";
 import { limited } from "./support/limited.js";
-import { WIDTHS, bytesOf, describeModules } from "./support/modules.js";
+import { MODULE, WIDTHS } from "./support/modules.js";
 
 // A contour from which much is removed, as rings and as polygons of three rings.
 const RING = [0, 0, 2, 0, 4, 0, 4, 4, 4, 9, 4, 4, 0, 4, 0, 4];
@@ -26,6 +26,7 @@ function callsOf(shapes, { points, number }) {
     for (const name of ["simplifyPolygons", "removeSpikes", "canonicalPolygons", "canonicalUnorientedPolygons"]) {
         calls[name] = () => shapes[name](rings, OFFSETS, POLYGONS);
     }
+    calls.compactPolygons = () => shapes.compactPolygons(OFFSETS, POLYGONS);
     return calls;
 }
 
@@ -59,7 +60,8 @@ test("an address of 32 bits from 2^31 on comes with a sign", () => {
     assert.deepEqual(new Int32Array(buffer, 2 ** 31), Int32Array.of(7, 9));
 });
 
-describeModules((shapes, bits) => {
+describe("memory", async () => {
+    const shapes = await load(MODULE);
     for (const width of WIDTHS) {
         for (const [name, call] of Object.entries(callsOf(shapes, width))) {
             test(`${name} at ${width.bits} bits: the memory is as it was after a thousand calls`, () => {
@@ -74,7 +76,7 @@ describeModules((shapes, bits) => {
             test(`each call at ${width.bits} bits: points whose array has ${own} of its own`, async () => {
                 const wanted = callsOf(shapes, width);
                 const points = (coordinates) => Object.defineProperties(width.points(coordinates), properties);
-                const fresh = await load(bytesOf(bits));
+                const fresh = await load(MODULE);
                 for (const [name, call] of Object.entries(callsOf(fresh, { ...width, points }))) {
                     assert.deepEqual(call(), wanted[name](), name);
                     assert.equal(fresh.heldBytes, 0, name);
@@ -93,7 +95,7 @@ describeModules((shapes, bits) => {
     }
 
     test("the memory grows with the greatest call, and later ones use it again", async () => {
-        const fresh = await load(bytesOf(bits));
+        const fresh = await load(MODULE);
         const square = new Int32Array(2_000_000);
         const before = fresh.memoryBytes;
         assert.deepEqual(fresh.simplify(square), new Int32Array(0));
@@ -108,15 +110,15 @@ describeModules((shapes, bits) => {
         const sizesOf = (bytes) => {
             const { exports } = new WebAssembly.Instance(new WebAssembly.Module(bytes));
             const sizes = [exports.memory.buffer.byteLength];
-            for (let turn = 0; turn < 1000 && exports.i_shape_take(40_000n); turn++) {
+            for (let turn = 0; turn < 1000 && exports.i_shape_take(40_000); turn++) {
                 if (exports.memory.buffer.byteLength !== sizes.at(-1)) sizes.push(exports.memory.buffer.byteLength);
             }
             return sizes;
         };
-        const sizes = sizesOf(bytesOf(bits));
+        const sizes = sizesOf(MODULE);
         assert.ok(sizes.at(-1) >= 40_000_000);
         for (let k = 1; k < sizes.length; k++) assert.ok(sizes[k] >= 1.125 * sizes[k - 1], `${sizes[k]} after ${sizes[k - 1]}`);
-        assert.equal(sizesOf(limited(bytesOf(bits), 100)).at(-1), sizes[0] + 100 * 65536);
+        assert.equal(sizesOf(limited(MODULE, 100)).at(-1), sizes[0] + 100 * 65536);
     });
 
     // Points that fill the pages which the memory may grow by, in each way: those of the caller are refused, or those of the library.
@@ -142,7 +144,7 @@ describeModules((shapes, bits) => {
                 const wanted = call(shapes);
                 let refusals = 0;
                 for (let pages = 0; pages <= 256; pages = pages < 8 ? pages + 1 : 2 * pages) {
-                    const scarce = await load(limited(bytesOf(bits), pages));
+                    const scarce = await load(limited(MODULE, pages));
                     try {
                         assert.deepEqual(call(scarce), wanted);
                     } catch (error) {
@@ -159,17 +161,17 @@ describeModules((shapes, bits) => {
     }
 
     test("more than there is", () => {
-        const exports = new WebAssembly.Instance(new WebAssembly.Module(bytesOf(bits))).exports;
-        for (const size of [2n ** 41n, 2n ** 63n, 2n ** 64n - 1n]) assert.ok(!exports.i_shape_take(size), `${size}`);
-        assert.equal(exports.i_shape_held(), 0n);
+        const exports = new WebAssembly.Instance(new WebAssembly.Module(MODULE)).exports;
+        for (const size of [2 ** 31, 2 ** 32 - 17, 2 ** 32 - 1]) assert.ok(!exports.i_shape_take(size), `${size}`);
+        assert.equal(exports.i_shape_held(), 0);
     });
 
     test("blocks are apart, aligned to 16, and used again", () => {
-        const exports = new WebAssembly.Instance(new WebAssembly.Module(bytesOf(bits))).exports;
-        const sizes = [0n, 1n, 15n, 16n, 17n, 1000n, 65536n];
+        const exports = new WebAssembly.Instance(new WebAssembly.Module(MODULE)).exports;
+        const sizes = [0, 1, 15, 16, 17, 1000, 65536];
         const taken = [];
         for (let turn = 0; turn < 100; turn++) {
-            for (const size of sizes) taken.push([Number(exports.i_shape_take(size)), Number(size)]);
+            for (const size of sizes) taken.push([exports.i_shape_take(size), size]);
         }
         taken.sort(([a], [b]) => a - b);
         taken.forEach(([address, size], k) => {
@@ -177,21 +179,25 @@ describeModules((shapes, bits) => {
             assert.ok(k + 1 === taken.length || address + size <= taken[k + 1][0]);
         });
         const before = exports.memory.buffer.byteLength;
-        const give = (address) => exports.i_shape_give(bits === 64 ? BigInt(address) : address);
-        for (const [address] of taken) give(address);
-        assert.equal(exports.i_shape_held(), 0n);
+        for (const [address] of taken) exports.i_shape_give(address);
+        assert.equal(exports.i_shape_held(), 0);
         for (let turn = 0; turn < 100; turn++) for (const size of sizes) assert.ok(exports.i_shape_take(size));
         assert.equal(exports.memory.buffer.byteLength, before);
     });
 
-    // What no call of load's object does: a pointer out of memory is a trap, after which the instance answers nothing more.
-    test("after a trap each call traps", () => {
-        const exports = new WebAssembly.Instance(new WebAssembly.Module(bytesOf(bits))).exports;
-        const address = bits === 64 ? 2n ** 33n : 2 ** 31;
-        assert.equal(exports.i_shape_version(), 0x000200);
-        assert.throws(() => exports.i_shape_is_safe_i32(address, 8n), WebAssembly.RuntimeError);
-        assert.throws(() => exports.i_shape_version(), WebAssembly.RuntimeError);
+    test("points of 4 GiB, and their offsets", () => {
+        assert.throws(() => shapes.simplify(new Int32Array(2 ** 30)), OutOfMemoryError);
+        assert.throws(() => shapes.isSimple(new BigInt64Array(2 ** 29 + 2)), OutOfMemoryError);
+        assert.equal(shapes.heldBytes, 0);
     });
 
-    test("no function or memory is imported", () => assert.deepEqual(WebAssembly.Module.imports(new WebAssembly.Module(bytesOf(bits))), []));
+    // What no call of load's object does: a pointer out of memory is a trap.
+    test("a call after a trap answers as before", () => {
+        const exports = new WebAssembly.Instance(new WebAssembly.Module(MODULE)).exports;
+        assert.throws(() => exports.i_shape_is_safe_i32(2 ** 31, 8), WebAssembly.RuntimeError);
+        assert.equal(exports.i_shape_version(), 0x000200);
+        assert.equal(exports.i_shape_is_safe_i32(exports.i_shape_take(0), 0), 1);
+    });
+
+    test("no function or memory is imported", () => assert.deepEqual(WebAssembly.Module.imports(new WebAssembly.Module(MODULE)), []));
 });

@@ -1,5 +1,5 @@
 /**
- * The modules beside the native library: ten thousand random contours at each width, and coastlines on several grids. I_SHAPE_ANSWERS names the
+ * The module beside the native library: ten thousand random contours at each width, and coastlines on several grids. I_SHAPE_ANSWERS names the
  * programs of native/answers.c but for the width that ends each name. Without it the tests are skipped.
  */
 import assert from "node:assert/strict";
@@ -74,7 +74,7 @@ function answerOf(call) {
     }
 }
 
-/** The lines of native/answers.c, by a module. */
+/** The lines of native/answers.c, by the module. */
 function answers(shapes, contours, { bits, Points, number }) {
     const lines = [];
     const tell = (name, points) => lines.push(typeof points === "number" ? `${name} ${points}` : [name, points.length / 2, ...points].join(" "));

@@ -2,6 +2,7 @@ import assert from "node:assert/strict";
 import { readFileSync } from "node:fs";
 import { test } from "node:test";
 import { fileURLToPath } from "node:url";
+import { gzipSync } from "node:zlib";
 import { load } from "i_shape";
 import * as module from "../src/i_shape.js";
 
@@ -32,14 +33,29 @@ test("the entries at the top are those of exports", () => {
     assert.deepEqual([description.types, description.main], [types, main]);
 });
 
+// The page names a call on many contours by the one on a contour, whose name gets an ending, and a call of JavaScript by that of C where the words are the same.
 test("docs/DATA.md has each call of C and of this package", async () => {
     const [, page] = readFileSync(new URL("../../../docs/DATA.md", import.meta.url), "utf8").split("\n## Calls\n");
-    const column = (place) => [...page.matchAll(/^\| (?!result).*`.*$/gm)].flatMap(([row]) => [...row.split("|")[place].matchAll(/`(\w+)`/g)].map(([, name]) => name));
+    const words = new Set([...page.matchAll(/`(?:\w+(?:::|\.))?(\w+)`/g)].map(([, word]) => word));
+    const areThere = (names, ending) => assert.deepEqual(names.filter((name) => !words.has(name) && !words.has(name.replace(ending, ""))), []);
     const header = readFileSync(new URL("../../../include/i_shape.h", import.meta.url), "utf8");
-    assert.deepEqual([...new Set(column(2))].sort(), [...header.matchAll(/^[a-z].* i_shape_(\w+?)(?:_i32)?\((?:const (?:i_shape_point_i32|size_t)|void|size_t)/gm)].map(([, name]) => name).sort());
+    areThere([...header.matchAll(/^[a-z].* i_shape_(\w+?)(?:_i32)?\((?:const (?:i_shape_point_i32|size_t)|void|size_t)/gm)].map(([, name]) => name), /_(contours|shapes)$/);
     const shapes = await load();
-    const names = Object.getOwnPropertyNames(Object.getPrototypeOf(shapes)).filter((name) => !["constructor", "memoryBytes", "heldBytes", "despikePolygons"].includes(name));
-    assert.deepEqual(column(4).sort(), [...names, "fromGeoJson", "toGeoJson"].sort());
+    const own = Object.getOwnPropertyNames(Object.getPrototypeOf(shapes)).filter((name) => !["constructor", "memoryBytes", "heldBytes", "despikePolygons"].includes(name));
+    const names = [...own, "fromGeoJson", "toGeoJson"];
+    areThere(names.filter((name) => !words.has(name)).map((name) => name.replace(/[A-Z]/g, (letter) => `_${letter.toLowerCase()}`)), /_(rings|polygons)$/);
+    const columns = [...page.split("| JavaScript |")[1].matchAll(/^(?:\|[^|\n]*){3}\|([^|\n]*)/gm)].map(([, column]) => column);
+    const told = [...page.matchAll(/JavaScript ((?:`\w+`(?:, )?)+)/g)].map(([, list]) => list);
+    for (const [, name] of [...columns, ...told].join(" ").matchAll(/`(\w+)`/g)) assert.ok(names.includes(name), name);
+});
+
+test("docs/JAVASCRIPT.md says how large the module is", () => {
+    const [, size, zipped] = readFileSync(new URL("../../../docs/JAVASCRIPT.md", import.meta.url), "utf8").match(/The module has some ([\d,]+) bytes, or\s+([\d,]+)\s+after gzip/)
+        .map((text) => Number(text.replaceAll(",", "")));
+    const module = readFileSync(new URL("../out/i_shape32.wasm", import.meta.url));
+    for (const [said, found] of [[size, module.length], [zipped, gzipSync(module, { level: 9 }).length]]) {
+        assert.ok(Math.abs(said - found) < 0.03 * found, `${said}, and ${found}`);
+    }
 });
 
 test("nothing is depended on", () => assert.deepEqual(Object.keys(description).filter((key) => /dependencies/i.test(key)), []));

@@ -39,6 +39,37 @@ const LEFT = [
     },
 ];
 
+// Polygons, and the first fault of each by the places in it.
+const SQUARE = [0, 0, 4, 0, 4, 4, 0, 4];
+const WIDE = [-9, -9, 9, -9, 9, 9, -9, 9];
+const LEFT_PART = [-8, -8, -8, 8, -2, 8, -2, -8];
+const INNER = [-7, 0, -5, 2, -4, -3];
+const ASIDE = [6, 1, 6, 2, 7, 1];
+const FAULTS = [
+    { rings: [], fault: { kind: "valid" } },
+    { rings: [WIDE, ASIDE, LEFT_PART], fault: { kind: "valid" } },
+    { rings: [[0, 0, 4, 4, 4, 0, 0, 4], [1, 1, 1, 1, 1, 1]], fault: { kind: "collapsed", ring: 1 } },
+    { rings: [SQUARE, ASIDE, [1, 1, 2, 1, 2, 4]], fault: { kind: "contact", first: 2, second: 8 } },
+    { rings: [SQUARE, ASIDE], fault: { kind: "holeOutside", ring: 1 } },
+    { rings: [WIDE, ASIDE, INNER, LEFT_PART], fault: { kind: "holeWithin", ring: 2, other: 3 } },
+    { rings: [[]], fault: { kind: "collapsed", ring: 0 } },
+];
+
+/** The polygons of FAULTS end to end, and their faults by the places in all of them. */
+function allFaults() {
+    const all = { points: [], ringOffsets: [0], polygonOffsets: [0], faults: [] };
+    for (const { rings, fault } of FAULTS) {
+        const before = { ring: all.ringOffsets.length - 1, other: all.ringOffsets.length - 1, first: all.ringOffsets.at(-1), second: all.ringOffsets.at(-1) };
+        all.faults.push(Object.fromEntries(Object.entries(fault).map(([name, place]) => [name, name === "kind" ? place : before[name] + place])));
+        for (const ring of rings) {
+            all.points.push(...ring);
+            all.ringOffsets.push(all.points.length / 2);
+        }
+        all.polygonOffsets.push(all.ringOffsets.length - 1);
+    }
+    return all;
+}
+
 // Squares with a straight vertex, each with a hole that turns right, and what is left of each.
 const COUNT = 3000;
 const OUTER = [0, 0, 5, 0, 9, 0, 9, 9, 0, 9];
@@ -65,6 +96,32 @@ function many(outer, toArray, toPoints) {
 }
 
 describeWidths((shapes, { points }) => {
+    test("compactPolygons: four polygons", () => {
+        const { offsets } = shapes.simplifyRings(points(GIVEN.points), GIVEN.ringOffsets);
+        const left = { polygons: Uint32Array.of(0, 2, 3), rings: Uint32Array.of(0, 1, 3, 6), offsets: Uint32Array.of(0, 3, 3, 4) };
+        assert.deepEqual(shapes.compactPolygons(offsets, GIVEN.polygonOffsets), left);
+        assert.deepEqual(shapes.compactPolygons(offsets, [3]), { polygons: new Uint32Array(0), rings: new Uint32Array(0), offsets: Uint32Array.of(0) });
+        for (const [rings, polygons, place, message] of [
+            [[0, 3, 2], [0], 2, "offsets[2] is 2, below the one before it"],
+            [[2 ** 33, 2 ** 32, 0], [0], 1, "offsets[1] is 4294967296, below the one before it"],
+            [[], [0], undefined, "there are no offsets"],
+            [[0, 3], [0, 2], 1, "polygonOffsets[1] is 2, above the count, 1"],
+            [[0, 3], [], undefined, "there are no polygonOffsets"],
+        ]) {
+            assert.throws(() => shapes.compactPolygons(rings, polygons), { name: "OffsetsError", place, message });
+        }
+        const far = [2 ** 33, 2 ** 33, 2 ** 33 + 2 ** 32, 2 ** 33 + 2 ** 32 + 4];
+        assert.deepEqual(shapes.compactPolygons(far, [0, 1, 3]), { polygons: Uint32Array.of(1), rings: Uint32Array.of(1, 2), offsets: Uint32Array.of(0, 2) });
+        assert.equal(shapes.heldBytes, 0);
+    });
+    test("polygonValidity: a polygon of each fault", () => {
+        const { points: coordinates, ringOffsets, polygonOffsets, faults } = allFaults();
+        const from = points(coordinates);
+        assert.deepEqual(shapes.polygonValidity(from, ringOffsets, polygonOffsets), faults);
+        assert.deepEqual(shapes.polygonValidity(from, ringOffsets, polygonOffsets.slice(2, 5)), faults.slice(2, 4));
+        assert.deepEqual(shapes.polygonValidity(from, ringOffsets, [0]), []);
+        assert.equal(shapes.heldBytes, 0);
+    });
     for (const { call, ...left } of LEFT) {
         const wanted = {
             points: points(left.points),

@@ -39,6 +39,7 @@ const TOLD = [
     { call: "isSimpleRings", told: [false, false, false], one: false },
     { call: "hasNoSpikesRings", told: [true, false, false], one: true },
     { call: "isConvexRings", told: [true, false, false], one: true },
+    { call: "areSimplePolygons", told: [true, false, false], one: true },
     { call: "isSafeRings", told: [true, true, true], one: true },
     { call: "areaTwoRings", told: [32n, 0n, 25n], one: 32n },
 ];

@@ -1,15 +1,16 @@
 /** What i_shape.d.ts lets through, and what it refuses; compiled by tsc, and not run. */
 import {
-    FILL_RULES, IShapeError, OffsetsError, UnsafePointError, fromGeoJson, load, supportsMemory64, toGeoJson,
+    CollapsedError, FILL_RULES, GeoJsonError, IShapeError, OffsetsError, UnsafePointError, fromGeoJson, load, toGeoJson,
     type FillRule, type IShape, type Polygons, type Rings,
 } from "../src/i_shape.js";
+import type { Validity } from "../src/i_shape.js";
 
 class Own extends Int32Array {
     readonly owner = "a class of the caller's";
 }
 
 async function contours(): Promise<void> {
-    const shapes: IShape = await load(fetch(supportsMemory64() ? "i_shape64.wasm" : "i_shape32.wasm"));
+    const shapes: IShape = await load(fetch("i_shape32.wasm"));
     const narrow: Int16Array = shapes.simplify(Int16Array.of(0, 0));
     const wide: BigInt64Array = shapes.canonicalUnoriented(shapes.canonical(BigInt64Array.of(0n, 0n)));
     const area: bigint | undefined = shapes.areaTwo(narrow);
@@ -34,13 +35,22 @@ async function keys(): Promise<void> {
     const shapes = await load();
     await load(new URL("i_shape32.wasm", "https://example.org/"));
     const polygons: Polygons<Int32Array> = fromGeoJson({ type: "Polygon", coordinates: [] }, { step: 0.5 });
-    const wide: Polygons<BigInt64Array> = fromGeoJson({}, { Points: BigInt64Array });
+    const wide: Polygons<BigInt64Array> = fromGeoJson({}, { step: 1, Points: BigInt64Array });
     const told: string[] = shapes.canonicalKeys(wide.points, wide.ringOffsets, undefined, { oriented: true });
     const places: Int32Array = shapes.sameRings({ points: polygons.points, offsets: [0] }, { points: wide.points, offsets: [0n] });
     const areSame: boolean = shapes.samePolygons(polygons, wide);
     const areas: bigint[] = shapes.areaTwoPolygons(polygons.points, polygons.ringOffsets, polygons.polygonOffsets);
     const coordinates: number[][][][] = toGeoJson(wide, { step: 0.5 }).coordinates;
     console.log(told, places, areSame, areas, coordinates);
+    const feature = shapes.cleanFeatures({ type: "Feature", id: 7, geometry: null }, { step: 0.5, call: "despike" });
+    const id: number = feature.id;
+    console.log(id);
+    // @ts-expect-error: no step
+    fromGeoJson({});
+    // @ts-expect-error: no step
+    toGeoJson(polygons, {});
+    // @ts-expect-error: no such call
+    shapes.cleanFeatures({}, { step: 1, call: "canonical" });
     // @ts-expect-error: keys are asked of points and offsets
     shapes.canonicalKeys(polygons);
 }
@@ -52,6 +62,10 @@ async function rings(shapes: IShape): Promise<void> {
     const simplified: Rings<Int32Array> = shapes.simplifyRings(points, [0, 1]);
     const left: Rings<Int32Array> = shapes.canonicalUnorientedRings(simplified.points, simplified.offsets);
     const polygons: Polygons<Int32Array> = shapes.canonicalPolygons(left.points, left.offsets, BigInt64Array.of(0n, 1n));
+    const faults: Validity[] = shapes.polygonValidity(polygons.points, polygons.ringOffsets, polygons.polygonOffsets);
+    for (const fault of faults) if (fault.kind === "holeWithin") console.log(fault.ring, fault.other);
+    // @ts-expect-error: a valid polygon has no ring at fault
+    faults.filter((fault) => fault.kind === "valid").map((fault) => fault.ring);
     const windings: Int32Array = shapes.windingNumbers(new Own(2), Uint32Array.of(0, 1), polygons.points);
     const rules: readonly FillRule[] = FILL_RULES;
     const filled: boolean[][] = rules.map((rule) => shapes.containsPoints(points, [0, 1], points, rule));
@@ -66,6 +80,7 @@ async function rings(shapes: IShape): Promise<void> {
 function errors(error: unknown): number | undefined {
     if (error instanceof UnsafePointError) return error.point ?? error.ring;
     if (error instanceof OffsetsError) return error.code;
+    if (error instanceof GeoJsonError || error instanceof CollapsedError) return error.feature;
     return error instanceof IShapeError ? error.code : undefined;
 }
 

@@ -19,9 +19,8 @@ const skip = (!hasChromium && "there is no chromium") || (!isBuilt && "`make was
 // The numbers of a square of 4 by 4 with a straight point.
 const SQUARE_NUMBERS = { given: "5 points in 1 ring", left: "4 points in 1 ring", removed: "1: 1 straight", area: "16" };
 const BROWSERS = [
-    { name: "a wide window", bits: 64, width: 1100, height: 800 },
-    { name: "a small window in the dark", bits: 64, width: 390, height: 780, isDark: true },
-    { name: "a browser without 64 bits of memory", bits: 32, width: 1100, height: 800, before: "WebAssembly.validate = () => false" },
+    { name: "a wide window", width: 1100, height: 800 },
+    { name: "a small window in the dark", width: 390, height: 780, isDark: true },
 ];
 
 /** What a test does on the page, and reads off it. */
@@ -40,6 +39,10 @@ class Page {
 
     marks(name) {
         return this.browser.read(`document.querySelector("#board > .${name}")?.getAttribute("d").match(/M/g)?.length ?? 0`);
+    }
+
+    path(name) {
+        return this.browser.read(`document.querySelector("#board > .${name}").getAttribute("d")`);
     }
 
     /** Where a point of the board lies in the window. */
@@ -129,7 +132,7 @@ describe("the page", () => {
     check("a module that isn't there is told", () => {
         const takes = (request, response) => request.url.endsWith(".wasm") && response.writeHead(404).end();
         return visit(folder, takes, async (browser) => {
-            await browser.until("document.getElementById('problem')?.textContent.endsWith('.wasm: 404 Not Found')");
+            await browser.until("document.getElementById('problem')?.textContent.includes('.wasm: 404 Not Found')");
             await browser.close(); // and another time, when it has ended
         });
     });
@@ -162,7 +165,7 @@ describe("the page", () => {
         });
     });
 
-    for (const { name, bits, ...kind } of BROWSERS) {
+    for (const { name, ...kind } of BROWSERS) {
         describe(name, () => {
             let browser;
             let page;
@@ -176,7 +179,7 @@ describe("the page", () => {
             after(() => browser?.close());
 
             check("an example at first, in whose place one is drawn, and nothing once it is cleared", async () => {
-                await page.texts({ version: `i_shape 0.2.0, in WebAssembly with ${bits} bits of memory.`, given: "18 points in 2 rings", problem: "" });
+                await page.texts({ version: `i_shape 0.2.0, in WebAssembly.`, given: "18 points in 2 rings", problem: "" });
                 await page.put([1, 1], [2, 2]);
                 await page.texts({ given: "2 points in 1 ring" });
                 await page.fresh();
@@ -220,6 +223,23 @@ describe("the page", () => {
                     convex: "no",
                     start: "(-4, -3)",
                 });
+            });
+
+            check("the first two edges that meet, of the first ring that has such", async () => {
+                await page.fresh();
+                await page.texts({ contact: "none" });
+                await page.put([-3, -2], [3, 2], [3, -2], [-3, 2]);
+                await page.texts({ contact: "edges 0 and 2 meet, from (-3, -2) and (3, -2)" });
+                assert.equal(await page.path("contact"), "M-3 2L3 -2M3 2L-3 -2");
+                await browser.clickOn("undo");
+                await page.texts({ contact: "none" });
+                assert.equal(await page.path("contact"), "");
+                await browser.clickOn("ring");
+                await page.put([-2, 0], [-1, 0], [-1, 1], [-1, 0]);
+                await page.texts({ contact: "edges 0 and 2 meet, from (-2, 0) and (-1, 1)" });
+                await browser.clickOn("undo");
+                await page.put([-1, 1]);
+                await page.texts({ contact: "edges 1 and 3 meet, from (-1, 0) and (-1, 1)" });
             });
 
             check("a square and a hole, by keys alone", async () => {
@@ -282,7 +302,7 @@ describe("the page", () => {
                 await browser.read(`document.getElementById("text").value = ${JSON.stringify(`${line} 20000 40000`)}`);
                 await browser.clickOn("read");
                 await browser.until("document.getElementById('given').textContent === '20001 points in 1 ring'");
-                await page.texts({ reading: "", removed: "0", problem: "" });
+                await page.texts({ reading: "", removed: "0", contact: "none", problem: "" });
                 await browser.read(`document.getElementById("text").value = ${JSON.stringify(`${line} one`)}`);
                 await browser.clickOn("read");
                 await browser.until("document.getElementById('problem').textContent.endsWith('\"one\" is no number')");
@@ -346,6 +366,7 @@ describe("the page", () => {
             check("nothing stands out of the window, and nothing was thrown", async () => {
                 await browser.clickOn("example");
                 await page.texts({ given: "18 points in 2 rings", left: "10 points in 2 rings", removed: "8: 5 straight, 1 spike, 2 repeated" });
+                await page.texts({ contact: "edges 3 and 5 meet, from (3, -3) and (4, 0)" });
                 for (const link of await browser.read("Array.from(document.querySelectorAll('a, link'), ({ href }) => href)")) {
                     if (link.startsWith(served.url)) assert.equal((await fetch(link)).status, 200, link);
                 }

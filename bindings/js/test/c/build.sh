@@ -1,16 +1,14 @@
 #!/bin/sh
-# Builds bindings/c/test.c, with each growth refused, as a WebAssembly module with the library. usage: build.sh 64|32 MODULE.wasm
+# Builds bindings/c/test.c as a WebAssembly module with the library, in which a sum that overflows is a trap. It takes Debian's clang and lld. usage: build.sh MODULE.wasm
 set -eu
-bits=$1
-module=$2
 here=$(cd "$(dirname "$0")" && pwd)
 top=$here/../../../..
-wasm=$here/../../wasm
 work=$(mktemp -d)
 trap 'rm -rf "$work"' EXIT
-compile() {
-    sh "$wasm/compile.sh" "$bits" -O1 -std=c11 -ffreestanding -fno-builtin -nostdinc -Wall -Wextra "$@"
-}
-compile -isystem "$here/include" -DOWN_ALLOCATOR -I"$top/include" "$top/bindings/c/test.c" -o "$work/test.o"
-compile "$here/libc.c" -o "$work/libc.o"
-sh "$wasm/link.sh" "$bits" "$module" "$here/../../out/i_shape$bits.o" "$work/test.o" "$work/libc.o"
+bash "$here/../../cargo.sh" rustc -p i_shape_c_library --lib --crate-type staticlib --config profile.dev.debug=0 --config profile.dev.opt-level=1
+for name in "$top/bindings/c/test.c" "$here/libc.c"; do
+    clang --target=wasm32-unknown-unknown -O1 -std=c11 -ffreestanding -fno-builtin -nostdinc -Wall -Wextra -isystem "$here/include" -I"$top/include" \
+        -c "$name" -o "$work/$(basename "$name" .c).o"
+done
+wasm-ld --no-entry --stack-first -z stack-size=1048576 --export=run --export=printed "$work/test.o" "$work/libc.o" \
+    "$top/rust/target/wasm/wasm32-unknown-unknown/debug/libi_shape.a" -o "$1"

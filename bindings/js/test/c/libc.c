@@ -1,9 +1,10 @@
 /* As much of a C library as bindings/c/test.c needs in a WebAssembly module, over the allocator of the module. What is printed lies at `printed`, and ends
  * with a 0. */
-#define rattle_alloc unused_alloc
-#define rattle_realloc unused_realloc
-#define rattle_dealloc unused_dealloc
-#include "../../wasm/allocator.c"
+#include <pthread.h>
+#include <stdint.h>
+#include <stdio.h>
+#include <stdlib.h>
+#include <string.h>
 
 typedef __builtin_va_list va_list;
 
@@ -43,41 +44,46 @@ int printf(const char *format, ...) {
     return 0;
 }
 
-void *malloc(uint64_t size) {
-    return take(size);
+void *i_shape_take(size_t size);
+void i_shape_give(void *at);
+
+void *malloc(size_t size) {
+    return i_shape_take(size);
 }
 
 void free(void *at) {
-    if (at) give(at);
-}
-
-void *realloc(void *before, uint64_t size) {
-    void *at = take(size);
-    if (!at) return NULL;
-    uint64_t kept = size_of(block_of(before)->order) - sizeof(struct block);
-    __builtin_memcpy(at, before, (uintptr_t)(kept < size ? kept : size));
-    give(before);
-    return at;
+    if (at) i_shape_give(at);
 }
 
 void abort(void) {
     __builtin_trap();
 }
 
-void *memset(void *at, int byte, uint64_t size) {
+void *memset(void *at, int byte, size_t size) {
     for (volatile unsigned char *to = at; size > 0; size--) *to++ = (unsigned char)byte;
     return at;
 }
 
-int memcmp(const void *a, const void *b, uint64_t size) {
+int memcmp(const void *a, const void *b, size_t size) {
     for (const unsigned char *x = a, *y = b; size > 0; size--, x++, y++)
         if (*x != *y) return *x < *y ? -1 : 1;
     return 0;
 }
 
+int pthread_create(pthread_t *thread, const void *attributes, void *(*run)(void *), void *argument) {
+    (void)attributes;
+    *thread = 0;
+    run(argument);
+    return 0;
+}
+
+int pthread_join(pthread_t thread, void **answer) {
+    (void)thread;
+    (void)answer;
+    return 0;
+}
+
 int main(void);
-__asm__(".export_name run, run\n"
-        ".export_name printed, printed");
 
 int run(void) {
     return main();

@@ -7,9 +7,9 @@ typedef __INT32_TYPE__ int32_t;
 typedef __INT64_TYPE__ int64_t;
 typedef __UINT32_TYPE__ uint32_t;
 typedef __UINT64_TYPE__ uint64_t;
-typedef __UINT64_TYPE__ uintptr_t; /* as the library's: an address takes 64 bits in memory */
-#define INT64_C(number) __INT64_C(number)
-#define UINT64_C(number) __UINT64_C(number)
+typedef __UINTPTR_TYPE__ uintptr_t;
+#define INT64_C(number) number##LL
+#define UINT64_C(number) number##ULL
 #define UINT64_MAX __UINT64_MAX__
-#define PTRDIFF_MIN (-__INT64_MAX__ - 1)
+#define PTRDIFF_MIN (-__PTRDIFF_MAX__ - 1)
 #endif
