@@ -1,4 +1,4 @@
-/* The extension of PostgreSQL: functions over WKB in bytea, of which i_shape--0.1.sql makes those over geometry. */
+/* The extension of PostgreSQL: functions over WKB in bytea, of which i_shape--*.sql make those over geometry. */
 #include "postgres.h"
 
 #include <math.h>
@@ -32,44 +32,31 @@ void _PG_init(void) {
 }
 
 /* May end the call, and so the memory contexts free what it holds. */
-static void let_interrupt(void) {
+static void check_for_interrupts(void *unused) {
     CHECK_FOR_INTERRUPTS();
 }
 
+static const Pause let_interrupt = {check_for_interrupts, NULL};
+
 /* ---- refusals ---- */
 
-static const char *name_of_type(uint32 type) {
-    static const char *const names[] = {"Geometry", "Point", "LineString", "Polygon", "MultiPoint", "MultiLineString", "MultiPolygon",
-                                        "GeometryCollection", "CircularString", "CompoundCurve", "CurvePolygon", "MultiCurve", "MultiSurface",
-                                        "Curve", "Surface", "PolyhedralSurface", "Tin", "Triangle"};
-    return type < lengthof(names) ? names[type] : "geometry of an unknown type";
-}
-
-static bool is_curved(uint32 type) {
-    return type >= 8 && type <= 13;
+static int code_of(FaultKind kind) {
+    switch (kind) {
+    case NOT_WKB: return ERRCODE_INVALID_BINARY_REPRESENTATION;
+    case MIXED_SRIDS: return ERRCODE_INVALID_PARAMETER_VALUE;
+    case OUT_OF_RANGE: return ERRCODE_NUMERIC_VALUE_OUT_OF_RANGE;
+    default: return ERRCODE_FEATURE_NOT_SUPPORTED;
+    }
 }
 
 /* Of what isn't fine, where wanted names the type that is. */
 static void refuse(const Fault *fault, const char *wanted) {
-    switch (fault->kind) {
-    case FINE: return;
-    case OTHER_TYPE:
-        ereport(ERROR, errcode(ERRCODE_FEATURE_NOT_SUPPORTED), errmsg("i_shape: a %s is needed, not a %s", wanted, name_of_type(fault->type)),
-                is_curved(fault->type) ? errhint("Use ST_CurveToLine first.") : 0);
-        return;
-    case HAS_Z_OR_M:
-        ereport(ERROR, errcode(ERRCODE_FEATURE_NOT_SUPPORTED), errmsg("i_shape: the geometry has Z or M, and two coordinates a point are needed"),
-                errhint("Use ST_Force2D first."));
-        return;
-    case NOT_WKB: ereport(ERROR, errcode(ERRCODE_INVALID_BINARY_REPRESENTATION), errmsg("i_shape: not a geometry: %s", fault->what)); return;
-    case MIXED_SRIDS:
-        ereport(ERROR, errcode(ERRCODE_INVALID_PARAMETER_VALUE), errmsg("i_shape: a part of a MultiPolygon has another SRID"));
-        return;
-    case OUT_OF_RANGE:
-        ereport(ERROR, errcode(ERRCODE_NUMERIC_VALUE_OUT_OF_RANGE),
-                errmsg("i_shape: polygon %zu, ring %zu, point %zu: %c is %s, %s", fault->polygon, fault->ring, fault->point, fault->axis,
-                       double_to_shortest_decimal(fault->value), fault->what));
-    }
+    char text[FAULT_SIZE];
+    if (fault->kind == FINE) return;
+    put_fault(fault, wanted, text);
+    bool is_curve = fault->kind == OTHER_TYPE && fault->type >= WKB_CIRCULARSTRING && fault->type <= WKB_CURVE;
+    ereport(ERROR, errcode(code_of(fault->kind)), errmsg("i_shape: %s", text),
+            is_curve ? errhint("Use ST_CurveToLine first.") : fault->kind == HAS_Z_OR_M ? errhint("Use ST_Force2D first.") : 0);
 }
 
 static void refuse_memory(void) {
@@ -196,13 +183,52 @@ CALL(pg_i_shape_key) {
     PG_RETURN_BYTEA_P(key);
 }
 
-CALL(pg_i_shape_is_clean) {
+static Datum test_wkb(FunctionCallInfo fcinfo, bool (*holds)(const Geometry *geometry, Pause pause)) {
     bytea *wkb = PG_GETARG_BYTEA_PP(0);
     Geometry given = geometry_of(wkb, grid_of(PG_GETARG_FLOAT8(1)));
-    bool answer = is_clean(&given, let_interrupt);
+    bool answer = holds(&given, let_interrupt);
     free_block(&given);
     PG_FREE_IF_COPY(wkb, 0);
     PG_RETURN_BOOL(answer);
+}
+
+CALL(pg_i_shape_is_clean) {
+    return test_wkb(fcinfo, is_clean);
+}
+
+CALL(pg_i_shape_has_no_spikes) {
+    return test_wkb(fcinfo, has_no_spikes);
+}
+
+static Invalidity invalidity_of(const Geometry *geometry) {
+    Invalidity found;
+    size_t *offsets = MemoryContextAllocHuge(CurrentMemoryContext, (geometry->counts.rings + 1) * sizeof(size_t));
+    if (!find_invalidity(geometry, let_interrupt, offsets, &found)) refuse_memory();
+    pfree(offsets);
+    return found;
+}
+
+CALL(pg_i_shape_is_valid) {
+    bytea *wkb = PG_GETARG_BYTEA_PP(0);
+    Geometry given = geometry_of(wkb, grid_of(PG_GETARG_FLOAT8(1)));
+    Invalidity found = invalidity_of(&given);
+    free_block(&given);
+    PG_FREE_IF_COPY(wkb, 0);
+    PG_RETURN_BOOL(found.kind == I_SHAPE_VALID);
+}
+
+/* NULL where the geometry is valid. */
+CALL(pg_i_shape_validity_reason) {
+    bytea *wkb = PG_GETARG_BYTEA_PP(0);
+    Grid grid = grid_of(PG_GETARG_FLOAT8(1));
+    Geometry given = geometry_of(wkb, grid);
+    Invalidity found = invalidity_of(&given);
+    char text[REASON_SIZE];
+    if (found.kind != I_SHAPE_VALID) put_reason(&found, grid, text);
+    free_block(&given);
+    PG_FREE_IF_COPY(wkb, 0);
+    if (found.kind == I_SHAPE_VALID) PG_RETURN_NULL();
+    PG_RETURN_TEXT_P(cstring_to_text(text));
 }
 
 CALL(pg_i_shape_area_two) {

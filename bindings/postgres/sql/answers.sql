@@ -71,11 +71,44 @@ SELECT ST_AsText(geom) FROM (VALUES
     ('POLYGON((0 0,4 0,4 4,4 9,4 4,0 0))', false), ('MULTIPOLYGON(EMPTY,((0 0,4 0,4 4,0 0)))', false)
 ) AS row(geom, wanted) WHERE i_shape_is_clean(geom, 1) IS DISTINCT FROM wanted OR (i_shape_simplify(geom, 1)::bytea = geom::bytea) IS DISTINCT FROM wanted;
 
+\echo what has no spikes: what answers something else
+SELECT ST_AsText(geom) FROM (VALUES
+    ('POLYGON((0 0,4 0,4 4,0 0))'::geometry, true), ('POLYGON EMPTY', true), ('POLYGON((0 0,2 0,4 0,4 4,0 0))', true), ('POLYGON((0 0,0 0,4 0,4 4,0 0))', true),
+    ('POLYGON((0 0,4 0,4 4,4 9,4 4,0 0))', false), ('POLYGON((0 0,4 0,4 4.25,0 0))', false), ('POLYGON((0 0,9 0,9 9,0 0),(1 1,2 2,3 3,1 1))', false),
+    ('MULTIPOLYGON(((0 0,4 0,4 4,0 0)),((9 9,9 8,9 9,9 9)))', false), ('MULTIPOLYGON(((0 0,2 0,4 0,4 4,0 0)),((9 9,9 8,8 8,9 9)))', true)
+) AS row(geom, wanted) WHERE i_shape_has_no_spikes(geom, 1) IS DISTINCT FROM wanted OR NOT i_shape_has_no_spikes(i_shape_despike(geom, 1), 1);
+
+\echo what is valid: what answers something else
+SELECT name, got FROM (VALUES
+    ('a hole', i_shape_validity_reason('POLYGON((0 0,4 0,4 4,0 4,0 0),(1 1,2 1,1 2,1 1))', 1), NULL), ('EMPTY', i_shape_validity_reason('POLYGON EMPTY', 1), NULL),
+    ('off the grid', i_shape_validity_reason('POLYGON((0 0,4 0,4 4.25,0 0))', 1), NULL), ('an EMPTY part', i_shape_validity_reason('MULTIPOLYGON(EMPTY)', 1), NULL),
+    ('polygons that overlap', i_shape_validity_reason('MULTIPOLYGON(((0 0,4 0,4 4,0 0)),((0 0,4 0,4 4,0 0)))', 1), NULL),
+    ('a crossing', i_shape_validity_reason('POLYGON((0 0,4.5 4.5,4.5 0,0 4.5,0 0))', 0.5), 'polygon 1, ring 1: edge 1 from (0, 0) meets edge 3 from (4.5, 0)'),
+    ('a spike', i_shape_validity_reason('POLYGON((0 0,4 0,4 4,4 9,4 4,0 4,0 0))', 1), 'polygon 1, ring 1: edge 2 from (4, 0) meets edge 4 from (4, 9)'),
+    ('a repeated point', i_shape_validity_reason('POLYGON((0 0,4 0,4 0,4 4,0 0))', 1), 'polygon 1, ring 1: edge 1 from (0, 0) meets edge 3 from (4, 0)'),
+    ('a hole that touches', i_shape_validity_reason('MULTIPOLYGON(((0 0,1 0,0 1,0 0)),((0 0,4 0,4 4,0 4,0 0),(1 1,1 2,2 4,1 1)))', 1),
+     'polygon 2, ring 1: edge 3 from (4, 4) meets edge 2 of ring 2 from (1, 2)'),
+    ('a hole that touches at its first point', i_shape_validity_reason('POLYGON((0 0,4 0,4 4,0 4,0 0),(0 1,1 1,1 2,0 1))', 1),
+     'polygon 1, ring 1: edge 4 from (0, 4) meets edge 1 of ring 2 from (0, 1)'),
+    ('a valid polygon behind a crossing', i_shape_validity_reason('MULTIPOLYGON(((0 0,4 4,4 0,0 4,0 0)),((9 9,8 9,9 8,9 9)))', 1),
+     'polygon 1, ring 1: edge 1 from (0, 0) meets edge 3 from (4, 0)'),
+    ('another fault behind a crossing', i_shape_validity_reason('MULTIPOLYGON(((0 0,4 4,4 0,0 4,0 0)),((9 9,9 9,9 9,9 9)))', 1),
+     'polygon 1, ring 1: edge 1 from (0, 0) meets edge 3 from (4, 0)'),
+    ('what is smaller than a step', i_shape_validity_reason('POLYGON((0 0,4 0,4 4,0 0),(2.9 1,3.1 1,3.1 1.1,2.9 1))', 1),
+     'polygon 1, ring 2: it has fewer than three points, or only equal ones, at (3, 1)'),
+    ('a hole outside', i_shape_validity_reason('POLYGON((0 0,4 0,4 4,0 0),(6 1,6 2,7.1 1,6 1))', 0.1), 'polygon 1, ring 2: it is a hole outside the outer ring, at (6, 1)'),
+    ('a hole within', i_shape_validity_reason('POLYGON((0 0,9 0,9 9,0 9,0 0),(2 2,4 2,4 4,2 2),(1 1,8 1,8 8,1 8,1 1))', 1),
+     'polygon 1, ring 2: it is a hole within ring 3, another hole, at (2, 2)'),
+    ('a ring without points', i_shape_wkb_validity_reason('\x01030000000100000000000000', 1), 'polygon 1, ring 1: it has fewer than three points, or only equal ones')
+) AS row(name, got, wanted) WHERE got IS DISTINCT FROM wanted;
+
 \echo over bytes: what differs from the call over geometry, of ISO and of the other byte order
 SELECT i_shape_wkb_simplify(wkb, 1) = ST_AsEWKB(i_shape_simplify(geom, 1)), i_shape_wkb_despike(wkb, 1) = ST_AsEWKB(i_shape_despike(geom, 1)),
     i_shape_wkb_canonical(wkb, 1) = ST_AsEWKB(i_shape_canonical(geom, 1)), i_shape_wkb_key(wkb, 1) = i_shape_key(geom, 1),
     i_shape_wkb_digest(wkb, 1) = i_shape_digest(geom, 1), i_shape_digest(geom, 1) = sha256(i_shape_key(geom, 1)),
-    i_shape_wkb_area_two(wkb, 1) = i_shape_area_two(geom, 1), i_shape_wkb_is_clean(wkb, 1) = i_shape_is_clean(geom, 1)
+    i_shape_wkb_area_two(wkb, 1) = i_shape_area_two(geom, 1), i_shape_wkb_is_clean(wkb, 1) = i_shape_is_clean(geom, 1),
+    i_shape_wkb_has_no_spikes(wkb, 1) = i_shape_has_no_spikes(geom, 1), i_shape_wkb_is_valid(wkb, 1) = i_shape_is_valid(geom, 1),
+    i_shape_is_valid(geom, 1) = (i_shape_validity_reason(geom, 1) IS NULL)
 FROM (VALUES ('SRID=4326;POLYGON((0 0,9 0,9 9,0 9,0 0),(1 1,1 2,2 2,1 1))'::geometry), ('MULTIPOLYGON(((0 0,2 0,4 0,4 4,0 0)),((8 8,9 8,9 9,8 8)))')) AS of(geom),
     LATERAL (VALUES (ST_AsEWKB(geom, 'NDR')), (ST_AsEWKB(geom, 'XDR'))) AS row(wkb);
 SELECT i_shape_wkb_key(ST_AsBinary(geom, 'XDR'), 1) = i_shape_key(geom, 1) FROM (VALUES ('POLYGON((0 0,4 0,4 4,0 0))'::geometry)) AS of(geom);

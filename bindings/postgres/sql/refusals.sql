@@ -26,6 +26,8 @@ SELECT statement, refusal(statement) FROM (VALUES
     ($$ i_shape_simplify('CIRCULARSTRING(0 0,1 1,2 0)', 1) $$, '0A000 / i_shape: a Polygon or a MultiPolygon is needed, not a CircularString / Use ST_CurveToLine first.'),
     ($$ i_shape_wkb_simplify('\x010d000000', 1) $$, '0A000 / i_shape: a Polygon or a MultiPolygon is needed, not a Curve / Use ST_CurveToLine first.'),
     ($$ i_shape_area_two('MULTISURFACE(((0 0,4 0,4 4,0 0)))', 1) $$, '0A000 / i_shape: a Polygon or a MultiPolygon is needed, not a MultiSurface / Use ST_CurveToLine first.'),
+    ($$ i_shape_is_valid('POINT(0 0)', 1) $$, '0A000 / i_shape: a Polygon or a MultiPolygon is needed, not a Point'),
+    ($$ i_shape_validity_reason('POLYGON((0 0,4 0,4 4,0 0))', 0) $$, '22023 / i_shape: step is 0, and a finite number above 0 is needed'),
     ($$ i_shape_is_clean('TRIANGLE((0 0,4 0,4 4,0 0))', 1) $$, '0A000 / i_shape: a Polygon or a MultiPolygon is needed, not a Triangle'),
     ($$ i_shape_key('TIN(((0 0 0,4 0 0,4 4 0,0 0 0)))', 1) $$, '0A000 / i_shape: the geometry has Z or M, and two coordinates a point are needed / Use ST_Force2D first.'),
     ($$ i_shape_simplify('POLYGON Z((0 0 1,4 0 1,4 4 1,0 0 1))', 1) $$, '0A000 / i_shape: the geometry has Z or M, and two coordinates a point are needed / Use ST_Force2D first.'),

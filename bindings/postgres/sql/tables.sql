@@ -40,6 +40,15 @@ INSERT INTO clean_ones VALUES ('POLYGON((0 0,0.05 0,0.1 0,0.1 0.1,0 0))');
 INSERT INTO clean_ones SELECT i_shape_simplify('POLYGON((0 0,0.05 0,0.1 0,0.1 0.10000003,0 0))', 1e-7);
 SELECT count(*) FROM clean_ones;
 
+\echo a CHECK of parcels, which keep the vertices that neighbours share
+CREATE TABLE parcels_of_one_grid (geom geometry CHECK (i_shape_has_no_spikes(geom, 1e-7)));
+INSERT INTO parcels_of_one_grid VALUES ('POLYGON((0 0,0.05 0,0.1 0,0.1 0.1,0 0))'), (NULL);
+\set VERBOSITY sqlstate
+INSERT INTO parcels_of_one_grid VALUES ('POLYGON((0 0,0.05 0,0.1 0,0.1 0.1,0.1 0.2,0.1 0.1,0 0))');
+\set VERBOSITY terse
+INSERT INTO parcels_of_one_grid SELECT i_shape_despike('POLYGON((0 0,0.05 0,0.1 0,0.1 0.1,0.1 0.2,0.1 0.1,0 0))', 1e-7);
+SELECT count(*) FROM parcels_of_one_grid;
+
 \echo a stored generated column, by which two tables are joined
 CREATE TABLE stored (id int, geom geometry, digest bytea GENERATED ALWAYS AS (i_shape_digest(geom, 1e-7)) STORED UNIQUE);
 INSERT INTO stored (id, geom) SELECT id, geom FROM parcels WHERE id > 0;

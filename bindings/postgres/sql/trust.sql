@@ -59,8 +59,24 @@ SELECT owned.i_shape_is_clean('POLYGON((0 0,4 0,4 4,0 0))'::gis.geometry, 1e-7);
 DROP EXTENSION i_shape;
 CREATE EXTENSION i_shape SCHEMA gis;
 SELECT gis.i_shape_is_clean('POLYGON((0 0,4 0,4 4,0 0))'::gis.geometry, 1e-7);
+DROP EXTENSION i_shape;
+
+\echo created by a role that is no superuser, and refused where that has a function of its own, not called
+CREATE ROLE regress_owner;
+GRANT CREATE ON DATABASE regress_trust TO regress_owner;
+GRANT USAGE ON SCHEMA gis TO regress_owner;
+SET ROLE regress_owner;
+CREATE SCHEMA own;
+CREATE EXTENSION i_shape SCHEMA own;
+SELECT own.i_shape_is_clean('POLYGON((0 0,4 0,4 4,0 0))'::gis.geometry, 1e-7);
+DROP EXTENSION i_shape;
+CREATE FUNCTION own.st_asewkb(gis.geometry) RETURNS bytea LANGUAGE plpgsql IMMUTABLE AS $$ BEGIN RAISE 'called by %', current_user; END $$;
+\set VERBOSITY sqlstate
+CREATE EXTENSION i_shape SCHEMA own;
+\set VERBOSITY terse
+RESET ROLE;
 
 \c :tests
 SET client_min_messages = error;
 DROP DATABASE regress_trust;
-DROP ROLE regress_mallory;
+DROP ROLE regress_mallory, regress_owner;

@@ -30,8 +30,9 @@ WITH of(geom) AS (VALUES ('MULTIPOLYGON(((0 0,4 0,9 0,9 9,0 9,0 0),(1 1,1 2,1 3,
     SELECT name, format('%s(%L, 1)', name, geom) FROM of, unnest('{i_shape_simplify,i_shape_despike,i_shape_canonical,i_shape_key,i_shape_digest}'::text[]) AS name)
 SELECT name, growths >= CASE WHEN name = 'i_shape_despike' THEN 0 ELSE 3 END, told = growths, blocks FROM calls, LATERAL refused(call);
 SELECT growths > 0, told = growths, blocks FROM refused($$ i_shape_despike('MULTIPOLYGON(((0 0,4 0,4 4,4 9,4 4,0 0)),((9 9,12 9,12 12,12 15,12 12,9 9)))', 1) $$);
-\echo measures and tests take none
-SELECT growths FROM unnest(ARRAY['i_shape_is_clean(%L, 1)', 'i_shape_area_two(%L, 1)', 'i_shape_winding(%L, ''POINT(1 1)'', 1)']) AS call,
+SELECT growths >= 2, told = growths, blocks FROM refused($$ i_shape_is_valid('MULTIPOLYGON(((0 0,4 0,4 4,0 0)),((9 9,12 9,12 12,9 9)))', 1) $$);
+\echo other measures and tests take none
+SELECT growths FROM unnest(ARRAY['i_shape_is_clean(%L, 1)', 'i_shape_has_no_spikes(%L, 1)', 'i_shape_area_two(%L, 1)', 'i_shape_winding(%L, ''POINT(1 1)'', 1)']) AS call,
     LATERAL refused(format(call, 'POLYGON((0 0,4 0,9 0,9 9,0 9,0 0))'));
 \echo an answer that is too long
 \set VERBOSITY sqlstate

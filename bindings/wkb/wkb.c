@@ -2,13 +2,15 @@
 
 #include <float.h>
 #include <math.h>
+#include <stdio.h>
+#include <stdlib.h>
 #include <string.h>
 
 _Static_assert(FLT_EVAL_METHOD == 0, "double is rounded at each operation, on which keys rest");
 _Static_assert(sizeof(size_t) == 8, "sizes of a WKB don't overflow");
 
-enum { EWKB_SRID = 0x20000000, ISO_DIMENSIONS = 1000, POINT_SIZE = 16, HEAD_SIZE = 5, COUNT_SIZE = 4 };
-static const uint32_t EWKB_Z_OR_M = 0xC0000000;
+enum { ISO_DIMENSIONS = 1000, ISO_Z = 1, ISO_M = 2, ISO_Z_AND_M = 3, POINT_SIZE = 16, HEAD_SIZE = 5, COUNT_SIZE = 4 };
+static const uint32_t EWKB_Z = 0x80000000, EWKB_M = 0x40000000, EWKB_SRID = 0x20000000, EWKB_FLAGS = 0xE0000000;
 /* Up to here rounding again what was brought back leads to the same whole numbers. */
 static const double LIMIT = 562949953421312.0; /* 2^49 */
 
@@ -25,7 +27,7 @@ static double steps_of(double x, Grid grid) {
     return rint(grid.steps_to_one != 0 ? x * grid.steps_to_one : x / grid.step);
 }
 
-static double brought_back(int64_t k, Grid grid) {
+double brought_back(int64_t k, Grid grid) {
     return grid.steps_to_one != 0 ? (double)k / grid.steps_to_one : (double)k * grid.step;
 }
 
@@ -47,6 +49,81 @@ void use_block(Geometry *geometry, void *block) {
     geometry->polygons = (Polygon *)(geometry->rings + geometry->counts.rings);
 }
 
+/* ---- faults in words ---- */
+
+void put_float(double value, char text[FLOAT_SIZE]) {
+    if (!isfinite(value)) {
+        strcpy(text, isnan(value) ? "NaN" : value < 0 ? "-Infinity" : "Infinity");
+        return;
+    }
+    for (int digits = DBL_DIG; digits <= DBL_DECIMAL_DIG; digits++) {
+        snprintf(text, FLOAT_SIZE, "%.*g", digits, value);
+        if (strtod(text, NULL) == value) break;
+    }
+    /* The host's locale may have another point. */
+    char *comma = strchr(text, ',');
+    if (comma) *comma = '.';
+}
+
+static const char *name_of_type(uint32_t type) {
+    static const char *const names[] = {"Geometry", "Point", "LineString", "Polygon", "MultiPoint", "MultiLineString", "MultiPolygon",
+                                        "GeometryCollection", "CircularString", "CompoundCurve", "CurvePolygon", "MultiCurve", "MultiSurface",
+                                        "Curve", "Surface", "PolyhedralSurface", "Tin", "Triangle"};
+    return type < sizeof names / sizeof *names ? names[type] : "geometry of an unknown type";
+}
+
+void put_fault(const Fault *fault, const char *wanted, char text[FAULT_SIZE]) {
+    char value[FLOAT_SIZE];
+    switch (fault->kind) {
+    case FINE: *text = 0; return;
+    case OTHER_TYPE: snprintf(text, FAULT_SIZE, "a %s is needed, not a %s", wanted, name_of_type(fault->type)); return;
+    case HAS_Z_OR_M: snprintf(text, FAULT_SIZE, "the geometry has Z or M, and two coordinates a point are needed"); return;
+    case NOT_WKB: snprintf(text, FAULT_SIZE, "not a geometry: %s", fault->what); return;
+    case MIXED_SRIDS: snprintf(text, FAULT_SIZE, "a part of a MultiPolygon has another SRID"); return;
+    case OUT_OF_RANGE:
+        put_float(fault->value, value);
+        snprintf(text, FAULT_SIZE, "polygon %zu, ring %zu, point %zu: %c is %s, %s", fault->polygon, fault->ring, fault->point, fault->axis, value,
+                 fault->what);
+    }
+}
+
+/* ---- why a geometry isn't valid ---- */
+
+enum { POINT_TEXT_SIZE = 2 * FLOAT_SIZE + 4 };
+
+static void put_point_text(const i_shape_point_i64 *point, Grid grid, char text[POINT_TEXT_SIZE]) {
+    char x[FLOAT_SIZE], y[FLOAT_SIZE];
+    put_float(brought_back(point->x, grid), x);
+    put_float(brought_back(point->y, grid), y);
+    snprintf(text, POINT_TEXT_SIZE, "(%s, %s)", x, y);
+}
+
+static void put_contact(const Place *first, const Place *second, Grid grid, char *text, size_t room) {
+    char one[POINT_TEXT_SIZE], other[POINT_TEXT_SIZE], ring[FLOAT_SIZE] = "";
+    put_point_text(first->point, grid, one);
+    put_point_text(second->point, grid, other);
+    if (second->ring != first->ring) snprintf(ring, sizeof ring, " of ring %zu", second->ring);
+    snprintf(text, room, "edge %zu from %s meets edge %zu%s from %s", first->number, one, second->number, ring, other);
+}
+
+void put_reason(const Invalidity *found, Grid grid, char text[REASON_SIZE]) {
+    char at[POINT_TEXT_SIZE + 5] = "";
+    int size = snprintf(text, REASON_SIZE, "polygon %zu, ring %zu: ", found->polygon, found->first.ring);
+    char *words = text + size;
+    size_t room = REASON_SIZE - (size_t)size;
+    if (found->first.point) {
+        strcpy(at, ", at ");
+        put_point_text(found->first.point, grid, at + strlen(at));
+    }
+    switch (found->kind) {
+    case I_SHAPE_COLLAPSED: snprintf(words, room, "it has fewer than three points, or only equal ones%s", at); return;
+    case I_SHAPE_CONTACT: put_contact(&found->first, &found->second, grid, words, room); return;
+    case I_SHAPE_HOLE_OUTSIDE: snprintf(words, room, "it is a hole outside the outer ring%s", at); return;
+    case I_SHAPE_HOLE_WITHIN: snprintf(words, room, "it is a hole within ring %zu, another hole%s", found->second.ring, at); return;
+    default: *text = 0;
+    }
+}
+
 /* ---- reading ---- */
 
 /* Without a geometry it only counts. */
@@ -56,7 +133,7 @@ typedef struct {
     Counts counts;
     Geometry *to;
     Grid grid;
-    Pause *pause;
+    Pause pause;
     Fault fault;
 } Reader;
 
@@ -88,12 +165,12 @@ static bool next_number(Reader *from, uint32_t *number) {
 
 typedef struct {
     uint32_t type;
-    bool has_srid;
+    bool has_z, has_m, has_srid;
     int32_t srid;
 } Head;
 
 /* The byte order, the type and, where it is there, the SRID. */
-static bool next_head(Reader *from, Head *head) {
+static bool next_any_head(Reader *from, Head *head) {
     uint32_t number = 0;
     *head = (Head){0};
     if (!has(from, 1)) return false;
@@ -103,10 +180,17 @@ static bool next_head(Reader *from, Head *head) {
     head->has_srid = (head->type & EWKB_SRID) != 0;
     if (head->has_srid && !next_number(from, &number)) return false;
     head->srid = (int32_t)number;
-    bool is_planar = !(head->type & EWKB_Z_OR_M);
-    head->type &= ~(EWKB_SRID | EWKB_Z_OR_M);
-    uint32_t dimensions = head->type / ISO_DIMENSIONS;
-    if (is_planar && !(dimensions >= 1 && dimensions <= 3)) return true;
+    uint32_t dimensions = (head->type & ~EWKB_FLAGS) / ISO_DIMENSIONS;
+    head->has_z = (head->type & EWKB_Z) || dimensions == ISO_Z || dimensions == ISO_Z_AND_M;
+    head->has_m = (head->type & EWKB_M) || dimensions == ISO_M || dimensions == ISO_Z_AND_M;
+    head->type &= ~EWKB_FLAGS;
+    if (dimensions <= ISO_Z_AND_M) head->type %= ISO_DIMENSIONS;
+    return true;
+}
+
+static bool next_head(Reader *from, Head *head) {
+    if (!next_any_head(from, head)) return false;
+    if (!head->has_z && !head->has_m) return true;
     from->fault = (Fault){.kind = HAS_Z_OR_M};
     return false;
 }
@@ -144,6 +228,10 @@ static size_t open_count(const Reader *from, size_t count) {
     return first[0] == last[0] && first[1] == last[1] ? count - 1 : count;
 }
 
+static bool is_minus_zero(double x) {
+    return x == 0 && signbit(x);
+}
+
 static bool add_ring(Reader *from, size_t count) {
     Geometry *to = from->to;
     i_shape_point_i64 *points = to->points + to->counts.points;
@@ -151,10 +239,11 @@ static bool add_ring(Reader *from, size_t count) {
     bool is_on_grid = open < count;
     for (size_t k = 0; k < open; k++) {
         double xy[2];
-        if (k % PAUSE_POINTS == PAUSE_POINTS - 1) from->pause();
+        if (k % PAUSE_POINTS == PAUSE_POINTS - 1) take_pause(from->pause);
         point_at(from, k, xy);
         if (!to_grid(xy, from->grid, points + k)) return out_of_range(from, xy, k);
         is_on_grid = is_on_grid && brought_back(points[k].x, from->grid) == xy[0] && brought_back(points[k].y, from->grid) == xy[1];
+        to->has_minus_zero = to->has_minus_zero || is_minus_zero(xy[0]) || is_minus_zero(xy[1]);
     }
     to->is_on_grid = to->is_on_grid && is_on_grid;
     to->rings[to->counts.rings++] = (Ring){points, open};
@@ -165,7 +254,7 @@ static bool add_ring(Reader *from, size_t count) {
 
 static bool walk_ring(Reader *from) {
     uint32_t count;
-    from->pause();
+    take_pause(from->pause);
     if (!next_number(from, &count) || !has(from, (uint64_t)count * POINT_SIZE)) return false;
     if (from->to && !add_ring(from, count)) return false;
     from->counts.rings++;
@@ -178,7 +267,7 @@ static bool walk_ring(Reader *from) {
 static bool walk_polygon(Reader *from) {
     Geometry *to = from->to;
     uint32_t count;
-    from->pause();
+    take_pause(from->pause);
     if (!next_number(from, &count)) return false;
     if (to) to->polygons[to->counts.polygons] = (Polygon){to->rings + to->counts.rings, 0};
     for (uint32_t k = 0; k < count; k++)
@@ -219,7 +308,7 @@ static Fault walk(Reader *from) {
     return from->fault;
 }
 
-Fault count_wkb(const void *wkb, size_t size, Pause *pause, Counts *counts) {
+Fault count_wkb(const void *wkb, size_t size, Pause pause, Counts *counts) {
     Reader from = reader_of(wkb, size);
     from.pause = pause;
     Fault fault = walk(&from);
@@ -227,13 +316,14 @@ Fault count_wkb(const void *wkb, size_t size, Pause *pause, Counts *counts) {
     return fault;
 }
 
-Fault read_wkb(const void *wkb, size_t size, Grid grid, Pause *pause, Geometry *to) {
+Fault read_wkb(const void *wkb, size_t size, Grid grid, Pause pause, Geometry *to) {
     Reader from = reader_of(wkb, size);
     from.to = to;
     from.grid = grid;
     from.pause = pause;
     to->counts = (Counts){0, 0, 0};
     to->is_on_grid = true;
+    to->has_minus_zero = false;
     return walk(&from);
 }
 
@@ -247,6 +337,58 @@ Fault read_point_wkb(const void *wkb, size_t size, double xy[2], int32_t *srid) 
     *srid = head.srid;
     from.at += POINT_SIZE;
     return has_ended(&from) ? (Fault){.kind = FINE} : from.fault;
+}
+
+/* ---- the box of any geometry ---- */
+
+static void widen(double box[4], const double xy[2]) {
+    for (int axis = 0; axis < 2; axis++) {
+        if (xy[axis] < box[2 * axis]) box[2 * axis] = xy[axis];
+        if (xy[axis] > box[2 * axis + 1]) box[2 * axis + 1] = xy[axis];
+    }
+}
+
+static bool box_points(Reader *from, uint32_t count, size_t size, double box[4]) {
+    if (!has(from, (uint64_t)count * size)) return false;
+    for (; count > 0; count--, from->at += size) {
+        double xy[2];
+        point_at(from, 0, xy);
+        widen(box, xy);
+    }
+    return true;
+}
+
+static bool box_rings(Reader *from, uint32_t rings, size_t size, double box[4]) {
+    uint32_t count;
+    for (; rings > 0; rings--)
+        if (!next_number(from, &count) || !box_points(from, count, size, box)) return false;
+    return true;
+}
+
+/* The next geometry, without its parts, of which there are so many more to come. */
+static bool box_head(Reader *from, uint64_t *to_come, double box[4]) {
+    Head head;
+    uint32_t count = 1;
+    if (!next_any_head(from, &head) || (head.type != WKB_POINT && !next_number(from, &count))) return false;
+    size_t size = POINT_SIZE + (size_t)(head.has_z + head.has_m) * sizeof(double);
+    switch (head.type) {
+    case WKB_POINT:
+    case WKB_LINESTRING:
+    case WKB_CIRCULARSTRING: return box_points(from, count, size, box);
+    case WKB_POLYGON:
+    case WKB_TRIANGLE: return box_rings(from, count, size, box);
+    default: *to_come += count; return head.type < WKB_TRIANGLE;
+    }
+}
+
+bool box_of_wkb(const void *wkb, size_t size, double box[4]) {
+    Reader from = reader_of(wkb, size);
+    uint64_t to_come = 1;
+    box[0] = box[2] = INFINITY;
+    box[1] = box[3] = -INFINITY;
+    for (; to_come > 0; to_come--)
+        if (!box_head(&from, &to_come, box)) return false;
+    return has_ended(&from) && box[0] <= box[1] && box[2] <= box[3];
 }
 
 /* ---- writing, in the machine's byte order ---- */
@@ -274,16 +416,16 @@ static unsigned char *put_point(unsigned char *at, i_shape_point_i64 point, Grid
     return at + POINT_SIZE;
 }
 
-static unsigned char *put_ring(unsigned char *at, Ring ring, Grid grid, Pause *pause) {
+static unsigned char *put_ring(unsigned char *at, Ring ring, Grid grid, Pause pause) {
     at = put_number(at, (uint32_t)ring.count + 1);
     for (size_t k = 0; k < ring.count; k++) {
-        if (k % PAUSE_POINTS == 0) pause();
+        if (k % PAUSE_POINTS == 0) take_pause(pause);
         at = put_point(at, ring.points[k], grid);
     }
     return put_point(at, ring.points[0], grid);
 }
 
-void write_wkb(const Geometry *geometry, Grid grid, Pause *pause, void *to) {
+void write_wkb(const Geometry *geometry, Grid grid, Pause pause, void *to) {
     size_t count = geometry->counts.polygons;
     unsigned char *at = put_head(to, (geometry->is_multi ? WKB_MULTIPOLYGON : WKB_POLYGON) | (geometry->has_srid ? EWKB_SRID : 0));
     if (geometry->has_srid) at = put_number(at, (uint32_t)geometry->srid);

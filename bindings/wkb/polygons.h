@@ -5,8 +5,15 @@
 
 #include "i_shape.h"
 
-/* Called between rings, and within long ones each so many points that are read or written: nothing is held then. */
-typedef void Pause(void);
+/* What a host does between rings, and within long ones each so many points that are read or written: nothing is held then. */
+typedef struct {
+    void (*call)(void *host);
+    void *host;
+} Pause;
+
+static inline void take_pause(Pause pause) {
+    pause.call(pause.host);
+}
 
 enum { PAUSE_POINTS = 1 << 16 };
 
@@ -43,6 +50,8 @@ typedef struct {
     /* The WKB of what was read is what would be written: each ring is closed, each coordinate on the grid, and each polygon
      * of a MultiPolygon has a ring. */
     bool is_on_grid;
+    /* A coordinate that was read is -0, which would be written as 0. */
+    bool has_minus_zero;
 } Geometry;
 
 typedef enum {
@@ -63,41 +72,72 @@ typedef struct {
     double value;
 } Fault;
 
-enum { WKB_POINT = 1, WKB_POLYGON = 3, WKB_MULTIPOLYGON = 6 };
+enum { WKB_POINT = 1, WKB_LINESTRING = 2, WKB_POLYGON = 3, WKB_MULTIPOLYGON = 6, WKB_CIRCULARSTRING = 8, WKB_CURVE = 13, WKB_TRIANGLE = 17 };
+enum { FLOAT_SIZE = 32, FAULT_SIZE = 256, REASON_SIZE = 384 };
+
+/* A float in the fewest digits that lead back to it. */
+void put_float(double value, char text[FLOAT_SIZE]);
+/* Why what isn't fine is refused, where wanted names the type that isn't. */
+void put_fault(const Fault *fault, const char *wanted, char text[FAULT_SIZE]);
 
 /* Whether step is finite and above 0. */
 bool make_grid(double step, Grid *grid);
 /* Whether both coordinates lie within the limit of the grid; then where the point lies on it. */
 bool to_grid(const double xy[2], Grid grid, i_shape_point_i64 *point);
+/* The coordinate of a number of steps. */
+double brought_back(int64_t k, Grid grid);
 
 /* The bytes that hold as many points, rings and polygons, and arrays within such a block, aligned as a pointer is. */
 size_t block_size(Counts counts);
 void use_block(Geometry *geometry, void *block);
 
 /* How much a WKB holds at most, for which the geometry that it is then read to has arrays. */
-Fault count_wkb(const void *wkb, size_t size, Pause *pause, Counts *counts);
-Fault read_wkb(const void *wkb, size_t size, Grid grid, Pause *pause, Geometry *to);
+Fault count_wkb(const void *wkb, size_t size, Pause pause, Counts *counts);
+Fault read_wkb(const void *wkb, size_t size, Grid grid, Pause pause, Geometry *to);
 /* A Point. Both coordinates are NaN where it is empty. */
 Fault read_point_wkb(const void *wkb, size_t size, double xy[2], int32_t *srid);
 
+/* The least and greatest x, and those of y, of a geometry of any type. It is false where that has no points, or isn't WKB. */
+bool box_of_wkb(const void *wkb, size_t size, double box[4]);
+
 size_t wkb_size(const Geometry *geometry);
-void write_wkb(const Geometry *geometry, Grid grid, Pause *pause, void *to);
+void write_wkb(const Geometry *geometry, Grid grid, Pause pause, void *to);
 
 typedef ptrdiff_t Cleaner(const i_shape_point_i64 *points, size_t count, i_shape_point_i64 *out, size_t room);
 
 /* What is left of the rings, without those that collapse and the polygons whose outer ring does, in arrays that hold as many
  * as given. It is false where an allocation failed. */
-bool clean_polygons(Cleaner *cleaner, const Geometry *given, Pause *pause, Geometry *left);
+bool clean_polygons(Cleaner *cleaner, const Geometry *given, Pause pause, Geometry *left);
 /* The holes of each polygon by their points, and then the polygons ring by ring. */
 void sort_polygons(Geometry *geometry);
 
 size_t key_size(const Geometry *form);
-void write_key(const Geometry *form, Pause *pause, void *to);
+void write_key(const Geometry *form, Pause pause, void *to);
 
-bool is_clean(const Geometry *geometry, Pause *pause);
+typedef int32_t Test(const i_shape_point_i64 *points, size_t count);
+
+bool is_clean(const Geometry *geometry, Pause pause);
+bool has_no_spikes(const Geometry *geometry, Pause pause);
 /* Twice the area in cells of the grid: of each polygon that of the outer ring less those of the holes, whichever way they turn. */
-__int128 area_two(const Geometry *geometry, Pause *pause);
+__int128 area_two(const Geometry *geometry, Pause pause);
+/* A ring of a polygon, and a point of the ring, each by its place from 1 on. The point is NULL where the ring has none. */
+typedef struct {
+    size_t ring, number;
+    const i_shape_point_i64 *point;
+} Place;
+
+/* Why a geometry isn't valid on its grid: the first fault of the first polygon that has one, at its place from 1 on. The kind is I_SHAPE_VALID or another one
+ * of i_shape.h. Of a contact, the places are where the two edges begin; else they are the first points of the ring, and of the hole around it. */
+typedef struct {
+    size_t kind, polygon;
+    Place first, second;
+} Invalidity;
+
+/* offsets has room for one more than there are rings. It is false where an allocation failed. */
+bool find_invalidity(const Geometry *geometry, Pause pause, size_t *offsets, Invalidity *found);
+/* Why a geometry that isn't valid isn't, with points as the grid brings them back. */
+void put_reason(const Invalidity *found, Grid grid, char text[REASON_SIZE]);
 /* How often the rings wind about a safe point together. */
-int64_t winding(const Geometry *geometry, i_shape_point_i64 about, Pause *pause);
+int64_t winding(const Geometry *geometry, i_shape_point_i64 about, Pause pause);
 
 #endif

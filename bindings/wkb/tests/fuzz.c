@@ -1,94 +1,16 @@
 /* COUNT mutated WKBs of random polygons, and a quarter as many as they are, through the reader, the cleaners, the order of forms and the writers, each block as
  * long as what it holds, for the address sanitizer. What is answered is compared with the calls of the C library on polygons, and with itself when it is read
  * again. Then each growth of the C library is refused in turn, and pauses are counted. usage: fuzz COUNT */
-#include "polygons.h"
+#include "tests/random_wkb.h"
 #include "tests/refusing.h"
-
-#include <stdio.h>
-#include <stdlib.h>
-#include <string.h>
-
-static void must(bool holds, const char *what) {
-    if (holds) return;
-    printf("%s\n", what);
-    exit(1);
-}
-
-/* ---- random WKB ---- */
-
-static uint64_t state = 88172645463325252u;
-
-static uint64_t below(uint64_t end) {
-    state ^= state << 13;
-    state ^= state >> 7;
-    state ^= state << 17;
-    return state % end;
-}
-
-static unsigned char bytes[1 << 14];
-static size_t length;
-static bool is_swapped;
-
-static void put(const void *from, size_t size) {
-    for (size_t k = 0; k < size; k++) bytes[length++] = ((const unsigned char *)from)[is_swapped ? size - 1 - k : k];
-}
-
-static void put_number(uint32_t number) {
-    put(&number, sizeof number);
-}
-
-static void put_head(uint32_t type) {
-    is_swapped = below(2);
-    bytes[length++] = (__BYTE_ORDER__ == __ORDER_LITTLE_ENDIAN__) != is_swapped;
-    put_number(type);
-}
-
-/* On few places of the grid, so that vertices are collinear, and rings collapse and equal one another. */
-static void put_ring(void) {
-    uint32_t count = (uint32_t)below(12), side = 2 + (uint32_t)below(6);
-    double first[2] = {0, 0};
-    put_number(count);
-    for (uint32_t k = 0; k < count; k++) {
-        double xy[2] = {(double)below(side) - 2, (double)below(side) - 2};
-        if (k == 0) memcpy(first, xy, sizeof xy);
-        if (k + 1 == count && below(4)) memcpy(xy, first, sizeof xy);
-        put(xy, sizeof *xy);
-        put(xy + 1, sizeof *xy);
-    }
-}
-
-static void put_polygon(void) {
-    uint32_t rings = (uint32_t)below(5);
-    put_number(rings);
-    while (rings--) put_ring();
-}
-
-static void make_wkb(void) {
-    bool is_multi = below(2), has_srid = below(2);
-    uint32_t parts = is_multi ? (uint32_t)below(5) : 0;
-    length = 0;
-    put_head((is_multi ? WKB_MULTIPOLYGON : WKB_POLYGON) | (has_srid ? 0x20000000u : 0));
-    if (has_srid) put_number(4326);
-    if (is_multi) put_number(parts);
-    else put_polygon();
-    while (parts--) {
-        put_head(WKB_POLYGON);
-        put_polygon();
-    }
-}
-
-static void mutate(void) {
-    switch (below(4)) {
-    case 0: length = below(length + 1); break;
-    case 1: bytes[below(length)] = (unsigned char)below(256); break;
-    case 2: bytes[below(length < 30 ? length : 30)] = (unsigned char)below(256); break;
-    default: bytes[below(length)] ^= (unsigned char)(1 << below(8));
-    }
-}
 
 /* ---- what is asked of each ---- */
 
-static void no_pause(void) {}
+static void stay(void *host) {
+    (void)host;
+}
+
+static const Pause no_pause = {stay, NULL};
 
 static void *block_of(size_t size) {
     return malloc(size ? size : 1);
@@ -168,6 +90,7 @@ static void check_written(const Geometry *left, Grid grid) {
     Geometry again;
     must(read_block(wkb, grid, &again) == FINE, "what is written isn't read");
     must(is_clean(&again, no_pause), "what is left isn't clean");
+    must(has_no_spikes(&again, no_pause), "what is left has spikes");
     Geometry twice = cleaned(i_shape_simplify_i64, &again);
     must(take_if_same(wkb, written(&twice, grid)), "cleaned again it is another one");
     free(wkb.at);
@@ -192,6 +115,30 @@ static void check_key(const Geometry *given, const Geometry *left, bool oriented
     free(other.points);
 }
 
+/* The first fault of the first polygon that has one is where the C library finds it in all of them. */
+static void check_invalidity(const Geometry *given, Grid grid) {
+    size_t *offsets = block_of((given->counts.rings + 1) * sizeof *offsets);
+    size_t *ends = block_of((given->counts.polygons + 1) * sizeof *ends);
+    i_shape_fault *faults = block_of((given->counts.polygons + 1) * sizeof *faults);
+    char text[REASON_SIZE];
+    Invalidity found;
+    must(find_invalidity(given, no_pause, offsets, &found), "no memory");
+    put_reason(&found, grid, text);
+    must((found.kind == I_SHAPE_VALID) == (*text == 0), "a fault without a reason");
+    ends[0] = 0;
+    for (size_t k = 0; k < given->counts.polygons; k++) ends[k + 1] = ends[k] + given->polygons[k].count;
+    must(i_shape_validity_shapes_i64(given->points, given->counts.points, offsets, given->counts.rings + 1, ends, given->counts.polygons + 1, faults,
+                                     given->counts.polygons) == 0, "no faults");
+    size_t first = 0;
+    while (first < given->counts.polygons && faults[first].kind == I_SHAPE_VALID) first++;
+    bool is_valid = first == given->counts.polygons;
+    must(is_valid == (found.kind == I_SHAPE_VALID), "it is valid for one alone");
+    if (!is_valid) must(found.polygon == first + 1 && found.kind == faults[first].kind, "another fault than the first");
+    free(offsets);
+    free(ends);
+    free(faults);
+}
+
 static FaultKind check_block(Block wkb) {
     Grid grid;
     Geometry given;
@@ -204,6 +151,7 @@ static FaultKind check_block(Block wkb) {
         must(i_shape_has_no_spikes_i64(despiked.rings[k].points, despiked.rings[k].count), "what is despiked has spikes");
     check_written(&left, grid);
     check_key(&given, &left, below(2));
+    check_invalidity(&given, grid);
     area_two(&given, no_pause);
     winding(&given, (i_shape_point_i64){1, 1}, no_pause);
     free(given.points);
@@ -249,9 +197,11 @@ static size_t check_refusals(Cleaner *cleaner) {
 
 static size_t pauses;
 
-static void count_pause(void) {
-    pauses++;
+static void add_one(void *count) {
+    ++*(size_t *)count;
 }
+
+static const Pause count_pause = {add_one, &pauses};
 
 static void must_have_paused(size_t least) {
     must(pauses >= least, "it doesn't pause");
@@ -282,9 +232,15 @@ static void check_pauses(void) {
     must_have_paused(4);
     is_clean(&form, count_pause);
     must_have_paused(1);
+    has_no_spikes(&form, count_pause);
+    must_have_paused(1);
     area_two(&form, count_pause);
     must_have_paused(1);
     winding(&form, (i_shape_point_i64){0, 0}, count_pause);
+    must_have_paused(1);
+    size_t offsets[2];
+    Invalidity found;
+    must(find_invalidity(&form, count_pause, offsets, &found), "no memory");
     must_have_paused(1);
     free(given.points);
     free(again.points);

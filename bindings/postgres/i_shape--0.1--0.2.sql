@@ -1,0 +1,48 @@
+\echo Use "ALTER EXTENSION i_shape UPDATE" to load this file. \quit
+
+CREATE FUNCTION i_shape_wkb_has_no_spikes(wkb bytea, step float8) RETURNS bool
+AS 'MODULE_PATHNAME', 'pg_i_shape_has_no_spikes' LANGUAGE c IMMUTABLE STRICT PARALLEL SAFE COST 50;
+CREATE FUNCTION i_shape_has_no_spikes(geom geometry, step float8) RETURNS bool
+LANGUAGE sql IMMUTABLE STRICT PARALLEL SAFE COST 500
+RETURN i_shape_wkb_has_no_spikes(ST_AsEWKB(geom), step);
+CREATE FUNCTION i_shape_wkb_is_valid(wkb bytea, step float8) RETURNS bool
+AS 'MODULE_PATHNAME', 'pg_i_shape_is_valid' LANGUAGE c IMMUTABLE STRICT PARALLEL SAFE COST 50;
+CREATE FUNCTION i_shape_is_valid(geom geometry, step float8) RETURNS bool
+LANGUAGE sql IMMUTABLE STRICT PARALLEL SAFE COST 500
+RETURN i_shape_wkb_is_valid(ST_AsEWKB(geom), step);
+CREATE FUNCTION i_shape_wkb_validity_reason(wkb bytea, step float8) RETURNS text
+AS 'MODULE_PATHNAME', 'pg_i_shape_validity_reason' LANGUAGE c IMMUTABLE STRICT PARALLEL SAFE COST 50;
+CREATE FUNCTION i_shape_validity_reason(geom geometry, step float8) RETURNS text
+LANGUAGE sql IMMUTABLE STRICT PARALLEL SAFE COST 500
+RETURN i_shape_wkb_validity_reason(ST_AsEWKB(geom), step);
+
+-- As at the end of i_shape--0.1.sql, which CREATE EXTENSION runs first: of all that the extension has now.
+SET LOCAL search_path = pg_catalog, pg_temp;
+DO $$
+DECLARE
+    strange text;
+BEGIN
+    WITH member AS (
+        SELECT extname, classid, objid FROM pg_depend JOIN pg_extension ON refobjid = pg_extension.oid
+        WHERE refclassid = 'pg_extension'::regclass AND deptype = 'e' AND extname IN ('i_shape', 'postgis')
+    )
+    SELECT string_agg(DISTINCT pg_describe_object(refclassid, refobjid, 0), ', ') INTO strange FROM member JOIN pg_depend USING (classid, objid)
+    WHERE extname = 'i_shape' AND deptype <> 'e' AND refclassid <> 'pg_namespace'::regclass AND (refclassid, refobjid) NOT IN (SELECT classid, objid FROM member);
+    IF strange IS NOT NULL THEN
+        RAISE invalid_object_definition USING
+            MESSAGE = 'i_shape: its calls would be bound to what is outside pg_catalog, PostGIS and i_shape: ' || strange,
+            HINT = 'Drop it, or create the extension in the schema of PostGIS.';
+    END IF;
+
+    WITH call AS (
+        SELECT pg_proc.oid, pronamespace, proname FROM pg_proc JOIN pg_depend ON classid = 'pg_proc'::regclass AND objid = pg_proc.oid
+        JOIN pg_extension ON refclassid = 'pg_extension'::regclass AND refobjid = pg_extension.oid WHERE deptype = 'e' AND extname = 'i_shape'
+    )
+    SELECT string_agg(pg_describe_object('pg_proc'::regclass, oid, 0), ', ') INTO strange FROM pg_proc
+    WHERE (pronamespace, proname) IN (SELECT pronamespace, proname FROM call) AND oid NOT IN (SELECT oid FROM call);
+    IF strange IS NOT NULL THEN
+        RAISE duplicate_function USING
+            MESSAGE = 'i_shape: functions outside the extension have the names of its calls: ' || strange,
+            HINT = 'Drop them, or create the extension in a schema in which no other role may create.';
+    END IF;
+END $$;
