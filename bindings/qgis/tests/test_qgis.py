@@ -1,0 +1,219 @@
+"""The algorithms by qgis_process, beside the command, on GeoPackages and a shapefile. QGIS_PROCESS names the program, and ogr2ogr makes the files."""
+import json
+import os
+import random
+import sqlite3
+import struct
+import subprocess
+import sys
+import tempfile
+import unittest
+from pathlib import Path
+
+CALLS = ("simplify", "despike", "canonical", "dedup")
+BOXES = (0, 32, 48, 48, 64)
+SPIKE = [[0, 0], [4, 0], [4, 4], [4, 9], [4, 4], [0, 0]]
+THIN = [[0, 0], [0.1, 0], [0.1, 0.1], [0, 0]]
+SQUARE = [[0, 0], [8, 0], [8, 8], [0, 8], [0, 0]]
+TRIANGLE = [[1, 1], [6, 1], [1, 6], [1, 1]]
+WITHIN = [[2, 2], [3, 2], [2, 3], [2, 2]]
+CROSSED = [[0.1, 0], [4, 4], [4, 0], [0, 4], [0.1, 0]]
+# By FID the polygons of a feature, and the kind, the polygon and the ring of its first fault.
+TESTED = {
+    2: ([[SQUARE], [THIN]], ["collapsed", 1, 0]),
+    3: ([[SQUARE, TRIANGLE]], None),
+    5: ([[SQUARE, []]], ["collapsed", 0, 1]),
+    7: ([[CROSSED]], ["contact", 0, 0]),
+    8: ([[SQUARE], [SQUARE, [[1, 1], [8, 2], [1, 2], [1, 1]]]], ["contact", 1, 0]),
+    9: ([[SQUARE, [[9, 9], [10, 9], [9, 10], [9, 9]]]], ["hole outside", 0, 1]),
+    12: ([[SQUARE, TRIANGLE, WITHIN], [THIN]], ["hole within", 0, 2]),
+}
+
+
+def ring(numbers):
+    """Few points of a small grid, so that some are repeated, and some in line."""
+    points = [[400000 + numbers.randrange(6) / 2, 5800000 + numbers.randrange(6) / 2] for _ in range(numbers.randrange(3, 12))]
+    return points + points[:1]
+
+
+def feature(fid, kind, coordinates):
+    return {"type": "Feature", "id": fid, "properties": {"name": f"number {fid}"}, "geometry": kind and {"type": kind, "coordinates": coordinates}}
+
+
+def random_features(count):
+    numbers = random.Random(70)
+    its = [feature(3 * place + 2, "MultiPolygon", [[ring(numbers) for _ in range(numbers.randrange(1, 3))] for _ in range(numbers.randrange(1, 3))])
+           for place in range(count)]
+    return [*its, *(dict(one, id=one["id"] + 10000) for one in its[:count // 4])]
+
+
+def points_of(wkb):
+    """The points of a MultiPoint, if any."""
+    count, = struct.unpack_from("<I", wkb, 5) if wkb else (0,)
+    return [list(struct.unpack_from("<dd", wkb, 14 + 21 * place)) for place in range(count)]
+
+
+def written_faults(path):
+    """By FID the reason and the points that the command has written as GeoJSON."""
+    found = {}
+    for its in json.loads(path.read_text())["features"]:
+        fid, reason, geometry = its["properties"]["fid"], its["properties"]["reason"], its["geometry"]
+        found.setdefault(fid, (reason, []))[1].extend([geometry["coordinates"]] if geometry else [])
+    return found
+
+
+def ask(*words):
+    its = subprocess.run(words, stdout=subprocess.PIPE, stderr=subprocess.STDOUT, text=True, errors="replace")
+    return its.returncode, its.stdout
+
+
+class QgisTest(unittest.TestCase):
+
+    def setUp(self):
+        work = tempfile.TemporaryDirectory()
+        self.addCleanup(work.cleanup)
+        self.work = Path(work.name)
+
+    def done(self, *words):
+        status, told = ask(*map(str, words))
+        self.assertEqual(status, 0, told)
+        return told
+
+    def package(self, features, name="given.gpkg", kind="GEOMETRY"):
+        (self.work / "given.geojson").write_text(json.dumps({"type": "FeatureCollection", "features": features}))
+        self.done("ogr2ogr", self.work / name, self.work / "given.geojson", "-preserve_fid", "-nln", "parcels", "-nlt", kind, "-a_srs", "EPSG:25833")
+        return self.work / name
+
+    def command(self, call, given, name, *words):
+        out = self.work / name
+        self.done(sys.executable, "-m", "i_shape", call, given, out, "--step", "0.5", *words)
+        return out
+
+    def ask_qgis(self, call, given, out, *words):
+        return ask(os.environ["QGIS_PROCESS"], "run", f"i_shape:{call}", "--", f"INPUT={given}", f"OUTPUT={out}", *words)
+
+    def qgis(self, call, given, name, *words):
+        out = self.work / name
+        status, told = self.ask_qgis(call, given, out, "STEP=0.5", *words)
+        self.assertEqual(status, 0, told)
+        self.assertTrue(out.exists(), told)
+        return out
+
+    def rows(self, path, fields="name"):
+        """The FID, fields and WKB of each feature, and the reference system of the layer."""
+        store = sqlite3.connect(path)
+        (table, system), = store.execute("""SELECT table_name, organization || ':' || organization_coordsys_id FROM gpkg_geometry_columns
+            JOIN gpkg_spatial_ref_sys USING (srs_id)""")
+        its = store.execute(f'SELECT fid, {fields}, geom FROM "{table}" ORDER BY fid').fetchall()
+        rows = [(*row, blob and blob[8 + BOXES[blob[3] >> 1 & 7]:]) for *row, blob in its]
+        store.close()
+        return system, rows
+
+    def same(self, call, given, words=(), choices=()):
+        expected = self.rows(self.command(call, given, f"{call}.gpkg", *words))
+        self.assertEqual(self.rows(self.qgis(call, given, f"qgis_{call}.gpkg", *choices)), expected)
+        return expected[1]
+
+    def test_geopackage(self):
+        """Each call gives the FIDs, attributes, bytes and reference system that the command gives."""
+        given = self.package(random_features(400))
+        before = self.rows(given)[1]
+        for call in CALLS:
+            with self.subTest(call=call):
+                words = () if call == "dedup" else ("--collapsed", "empty")
+                left = self.same(call, given, words, ["COLLAPSED=empty"] * bool(words))
+                self.assertNotEqual(left, before)
+
+    def test_oriented(self):
+        turned = [[[0, 0], [4, 0], [4, 4], [0, 0]]], [[[0, 0], [4, 4], [4, 0], [0, 0]]]
+        given = self.package([feature(place, "Polygon", its) for place, its in enumerate(turned, 1)])
+        self.assertEqual(len(self.same("dedup", given)), 1)
+        self.assertEqual(len(self.same("dedup", given, ["--oriented"], ["ORIENTED=true"])), 2)
+
+    def test_shapefile(self):
+        """The command takes it by way of a GeoPackage."""
+        given = self.work / "given.shp"
+        self.done("ogr2ogr", given, self.package(random_features(200)), "-nlt", "PROMOTE_TO_MULTI")
+        self.done("ogr2ogr", self.work / "way.gpkg", given, "-nlt", "PROMOTE_TO_MULTI", "-nln", "parcels")
+        for call in CALLS:
+            with self.subTest(call=call):
+                words, choices = ((), ()) if call == "dedup" else (("--collapsed", "drop"), ("COLLAPSED=drop",))
+                out = self.command(call, self.work / "way.gpkg", f"{call}.gpkg", *words)
+                its = self.qgis(call, given, f"qgis_{call}.gpkg", *choices)
+                # a shapefile has no FIDs of its own
+                self.assertEqual([row[1:] for row in self.rows(its)[1]], [row[1:] for row in self.rows(out)[1]])
+                self.assertEqual(self.rows(its)[0], "EPSG:25833")
+        out = self.work / "expected.shp"
+        self.done("ogr2ogr", out, self.command("simplify", self.work / "way.gpkg", "out.gpkg", "--collapsed", "drop"), "-nlt", "PROMOTE_TO_MULTI")
+        self.assertEqual(self.qgis("simplify", given, "out.shp", "COLLAPSED=drop").read_bytes(), out.read_bytes())
+
+    def test_others(self):
+        given = self.package([feature(2, "Polygon", [SPIKE]), feature(3, "Point", [1, 2]), feature(5, None, None),
+                              feature(7, "Polygon", [[[x, y, 1] for x, y in SPIKE]])])
+        out = self.work / "out.gpkg"
+        status, told = self.ask_qgis("dedup", given, out, "STEP=0.5")
+        self.assertNotEqual(status, 0)
+        self.assertIn("fid 3: a Polygon or a MultiPolygon of two coordinates a point is needed, not a Point", told)
+        self.assertFalse(out.exists())
+        self.assertEqual(len(self.same("despike", given, ["--others", "drop"], ["OTHERS=drop"])), 1)
+        status, told = self.ask_qgis("despike", given, out, "STEP=0.5", "OTHERS=keep")
+        self.assertNotEqual(status, 0)
+        self.assertIn("fid 7: QGIS would drop the heights or measures of a PolygonZ in a layer of Polygons", told)
+        self.assertFalse(out.exists())
+        flat = self.package([feature(2, "Polygon", [SPIKE]), feature(3, "Point", [1, 2])], "flat.gpkg")
+        self.assertEqual(len(self.same("despike", flat, ["--others", "keep"], ["OTHERS=keep"])), 2)
+
+    def test_collapsed(self):
+        given = self.package([feature(2, "Polygon", [SPIKE]), feature(4, "Polygon", [THIN]), feature(5, "Polygon", [THIN])])
+        out = self.work / "out.gpkg"
+        status, told = self.ask_qgis("simplify", given, out, "STEP=0.5")
+        self.assertNotEqual(status, 0)
+        self.assertIn("fid 4: nothing is left of it, nor of 1 other of 3 features; is the step in the unit of the coordinates?", told)
+        self.assertFalse(out.exists())
+        for collapsed, count in (("empty", 3), ("drop", 1)):
+            with self.subTest(collapsed=collapsed):
+                self.assertEqual(len(self.same("simplify", given, ["--collapsed", collapsed], [f"COLLAPSED={collapsed}"])), count)
+
+    def test_validity(self):
+        """One feature for each that the command prints, with the reason and points that it prints and writes."""
+        given = self.package([feature(fid, "MultiPolygon", its) for fid, (its, _) in TESTED.items()])
+        out, beside = self.work / "out.gpkg", self.work / "faults.geojson"
+        status, told = self.ask_qgis("validity", given, out, "STEP=0.5")
+        self.assertEqual(status, 0, told)
+        self.assertIn("6 of 7 features invalid", told)
+        self.assertIn("INVALID:\t6", told)
+        system, rows = self.rows(out, "kind, polygon, ring, reason")
+        self.assertEqual(system, "EPSG:25833")
+        self.assertEqual({fid: its for fid, *its, _, _ in rows}, {fid: fault for fid, (_, fault) in TESTED.items() if fault})
+        status, told = ask(sys.executable, "-m", "i_shape", "check", given, "--step", "0.5", "--to", beside)
+        self.assertEqual(status, 1, told)
+        self.assertEqual({fid: (reason, points_of(wkb)) for fid, *_, reason, wkb in rows}, written_faults(beside))
+        self.assertEqual([f"layer 'parcels', fid {fid}: {reason}" for fid, *_, reason, _ in rows], told.splitlines()[:-1])
+
+    def test_validity_of_others(self):
+        """They are an error or aren't tested. None is lost, since none is written."""
+        given = self.package([feature(2, "Polygon", [SPIKE]), feature(3, "Polygon", [[[x, y, 1] for x, y in SPIKE]]), feature(5, None, None)])
+        out = self.work / "out.gpkg"
+        status, told = self.ask_qgis("validity", given, out, "STEP=0.5")
+        self.assertNotEqual(status, 0)
+        self.assertIn("fid 3: a Polygon or a MultiPolygon of two coordinates a point is needed, not a PolygonZ", told)
+        self.assertFalse(out.exists())
+        for others in ("keep", "drop"):
+            with self.subTest(others=others):
+                self.assertEqual([row[0] for row in self.rows(self.qgis("validity", given, f"{others}.gpkg", f"OTHERS={others}"), "reason")[1]], [2])
+
+    def test_refused(self):
+        """A step is needed and above 0, and coordinates within the safe range of it; the package must be there."""
+        given, out = self.package([feature(2, "Polygon", [SPIKE])]), self.work / "out.gpkg"
+        for words, said in (([], "STEP"), (["STEP=0"], "step is 0.0: a finite number above 0 is needed"),
+                            (["STEP=1e-20"], "fid 2, polygon 0, ring 0, point 1: x is 4.0")):
+            with self.subTest(words=words):
+                status, told = self.ask_qgis("simplify", given, out, *words)
+                self.assertNotEqual(status, 0)
+                self.assertIn(said, told)
+                self.assertFalse(out.exists())
+        path = os.environ.pop("PYTHONPATH")
+        self.addCleanup(os.environ.__setitem__, "PYTHONPATH", path)
+        status, told = self.ask_qgis("simplify", given, out, "STEP=1")
+        self.assertNotEqual(status, 0)
+        self.assertIn("The Python package i_shape can't be used: No module named 'i_shape'. Install its wheel into the Python of QGIS.", told)
