@@ -1,10 +1,9 @@
 /*
- * main SAMPLES WORD LARGEST LIBRARY.. [--limits LIBRARY..]
+ * main SAMPLES WORD LARGEST LIBRARY..
  *
  * Times the rounds in each library (one for each placement of the code) and prints nanoseconds a point, least and greatest of the
  * placements; each is the least of so many samples. WORD, where it isn't empty, picks the calls and families in whose names it is.
- * LARGEST is the greatest number of points. The libraries behind --limits have rounds of limits and floors, the first one by SSE4.1 and
- * another one by AVX2: these are printed beside the times of the calls that have a limit.
+ * LARGEST is the greatest number of points.
  */
 #define _GNU_SOURCE
 #include <dlfcn.h>
@@ -17,7 +16,7 @@
 #include <string.h>
 #include <time.h>
 
-enum { MOST_LIBRARIES = 8, MOST_ENTRANTS = 2 * MOST_LIBRARIES, SAMPLE_NS = 1500000, POINTS_OF_SHAPE = 10, SHAPES = 1000 };
+enum { MOST_LIBRARIES = 8, SAMPLE_NS = 1500000, POINTS_OF_SHAPE = 10, SHAPES = 1000 };
 
 typedef struct {
     int64_t x, y;
@@ -26,9 +25,9 @@ typedef struct {
 typedef uint64_t (*rounds_of_contour)(const void *points, size_t n, size_t rounds);
 typedef uint64_t (*rounds_of_list)(const void *points, size_t n, size_t each, size_t contours, size_t rounds);
 
-/* Those of the placements, and behind them those of the limits. */
+/* Those of the placements. */
 static void *libraries[MOST_LIBRARIES];
-static int library_count, limit_count, samples;
+static int library_count, samples;
 static size_t largest;
 static const char *word;
 
@@ -147,21 +146,6 @@ static const struct {
     {"is_in_safe_range", "is_in_safe_range", CLEAN},
 };
 
-/* The calls that have a limit, and the floor of each. */
-static const struct {
-    const char *symbol, *name, *floor;
-    int families;
-} limited[] = {
-    {"is_in_safe_range", "is_in_safe_range", "reading", CLEAN},
-    {"is_simple", "is_simple", "reading", CLEAN},
-    {"has_no_spikes", "has_no_spikes", "reading", CLEAN},
-    {"contains_point", "contains_point", "reading", CLEAN | DISORDER},
-    {"area_two", "area_two", "reading", CLEAN},
-    {"simplify_into", "simplify_into", "copy_into", CLEAN},
-    {"c_is_simple", "is_simple of C", "reading", CLEAN},
-    {"c_simplify", "simplify of C", "copy_into", CLEAN},
-};
-
 static const struct {
     const char *name;
     size_t contours, dirty;
@@ -201,7 +185,7 @@ static void *given(const point *points, size_t n, int width)
 }
 
 typedef struct {
-    const char *symbol, *floor;
+    const char *symbol;
     const void *points;
     size_t n, contours;
     int width;
@@ -218,17 +202,6 @@ static entrant entrant_of(int library, const char *symbol, int width)
     char name[80];
     snprintf(name, sizeof name, "bench_%s_i%d", symbol, width);
     return (entrant){libraries[library], must(dlsym(libraries[library], name), name), INFINITY, INFINITY};
-}
-
-/* The placements, and behind them the limits and the floors. Answers how many. */
-static int enter(const task *t, entrant *entrants)
-{
-    int count = 0, all = library_count + limit_count;
-    for (int k = 0; k < all; k++)
-        entrants[count++] = entrant_of(k, t->symbol, t->width);
-    for (int k = library_count; k < all; k++)
-        entrants[count++] = entrant_of(k, t->floor, t->width);
-    return count;
 }
 
 /* The nanoseconds of so many rounds; of a list, those in which the clock was on. */
@@ -265,46 +238,40 @@ static double ns_a_point(const task *t, const entrant *e, size_t rounds)
     return (e->least - e->least_before) / (double)rounds / (double)t->n;
 }
 
-/* Writes least..greatest nanoseconds a point of the placements, and behind them those of each limit and of the lesser floor. */
+/* Writes least..greatest nanoseconds a point of the placements. */
 static void write_times(char *text, size_t room, const task *t, const entrant *entrants, size_t rounds, int differs)
 {
-    double low = INFINITY, high = 0, least_floor = INFINITY;
-    int all = library_count + limit_count;
+    double low = INFINITY, high = 0;
     for (int k = 0; k < library_count; k++) {
         low = fmin(low, ns_a_point(t, &entrants[k], rounds));
         high = fmax(high, ns_a_point(t, &entrants[k], rounds));
     }
-    int end = snprintf(text, room, "%.2f..%.2f%s", low, high, differs ? "!" : "");
-    for (int k = library_count; k < all; k++)
-        end += snprintf(text + end, room - (size_t)end, " / %.2f", ns_a_point(t, &entrants[k], rounds));
-    for (int k = all; k < all + limit_count; k++)
-        least_floor = fmin(least_floor, ns_a_point(t, &entrants[k], rounds));
-    if (limit_count > 0)
-        snprintf(text + end, room - (size_t)end, " / %.2f", least_floor);
+    snprintf(text, room, "%.2f..%.2f%s", low, high, differs ? "!" : "");
 }
 
 static void print_cell(const char *text)
 {
-    printf(" | %-*s", limit_count > 0 ? 32 : 13, text);
+    printf(" | %-13s", text);
 }
 
-/* Whether two rounds of a placement or of a limit answer otherwise. */
-static int differs_from(uint64_t answer, const task *t, const entrant *entrants)
+/* Whether two rounds of a placement return another sum. */
+static int differs_from(uint64_t wanted, const task *t, const entrant *entrants)
 {
     int differs = 0;
-    for (int k = 0; k < library_count + limit_count; k++) {
+    for (int k = 0; k < library_count; k++) {
         uint64_t sum;
         timed(t, &entrants[k], 2, &sum);
-        differs |= sum != answer;
+        differs |= sum != wanted;
     }
     return differs;
 }
 
-/* Prints the times, with `!` where the placements or the limits answer differently, or `-` where a test ends early. */
+/* Prints the times, with `!` where the placements return different sums, or `-` where a test ends early. */
 static void cell(const task *t, int wants_true)
 {
-    entrant entrants[MOST_ENTRANTS];
-    int count = enter(t, entrants);
+    entrant entrants[MOST_LIBRARIES];
+    for (int k = 0; k < library_count; k++)
+        entrants[k] = entrant_of(k, t->symbol, t->width);
     uint64_t first;
     timed(t, entrants, 2, &first);
     if (wants_true && first != 2) {
@@ -314,9 +281,9 @@ static void cell(const task *t, int wants_true)
     int differs = differs_from(first, t, entrants);
     size_t rounds = rounds_of_sample(t, entrants);
     for (int s = 0; s < samples; s++)
-        for (int k = 0; k < count; k++)
+        for (int k = 0; k < library_count; k++)
             sample(t, &entrants[k], rounds);
-    char text[16 * MOST_ENTRANTS];
+    char text[64];
     write_times(text, sizeof text, t, entrants, rounds, differs);
     print_cell(text);
 }
@@ -324,7 +291,7 @@ static void cell(const task *t, int wants_true)
 /* Whether the calls of this name end at the first point that decides against it. */
 static int is_test(const char *symbol)
 {
-    return strncmp(symbol, "is_", 3) == 0 || strncmp(symbol, "has_", 4) == 0 || strncmp(symbol, "c_is_", 5) == 0;
+    return strncmp(symbol, "is_", 3) == 0 || strncmp(symbol, "has_", 4) == 0;
 }
 
 static int is_picked(const char *name, const char *family)
@@ -332,7 +299,7 @@ static int is_picked(const char *name, const char *family)
     return strstr(name, word) != NULL || strstr(family, word) != NULL;
 }
 
-static void contour_row(const char *name, const char *symbol, const char *floor, size_t family, size_t n)
+static void contour_row(const char *name, const char *symbol, size_t family, size_t n)
 {
     printf("%-29s | %-23s | %8zu", name, families[family].name, n);
     point *points = must(malloc(n * sizeof *points), "no memory");
@@ -343,7 +310,7 @@ static void contour_row(const char *name, const char *symbol, const char *floor,
         }
         families[family].make(points, n, radius_of(widths[w]));
         void *list = given(points, n, widths[w]);
-        task t = {symbol, floor, list, n, 0, widths[w]};
+        task t = {symbol, list, n, 0, widths[w]};
         cell(&t, is_test(symbol));
         free(list);
     }
@@ -363,7 +330,7 @@ static void list_row(size_t call, size_t layout)
             (is_dirty ? half_duplicates : clean)(points + k * POINTS_OF_SHAPE, POINTS_OF_SHAPE, radius_of(widths[w]));
         }
         void *list = given(points, n, widths[w]);
-        task t = {list_calls[call].symbol, NULL, list, n, layouts[layout].contours, widths[w]};
+        task t = {list_calls[call].symbol, list, n, layouts[layout].contours, widths[w]};
         cell(&t, 0);
         free(list);
     }
@@ -379,13 +346,13 @@ static int belongs(int wanted, size_t family)
 }
 
 /* The rows of a call on contours. */
-static void contour_rows(const char *name, const char *symbol, const char *floor, int wanted)
+static void contour_rows(const char *name, const char *symbol, int wanted)
 {
     static const size_t sizes[] = {10, 1000, 100000, 10000000};
     for (size_t f = 0; f < sizeof families / sizeof *families; f++)
         for (size_t s = 0; s < sizeof sizes / sizeof *sizes; s++)
             if (belongs(wanted, f) && sizes[s] <= largest && is_picked(name, families[f].name))
-                contour_row(name, symbol, floor, f, sizes[s]);
+                contour_row(name, symbol, f, sizes[s]);
 }
 
 static void list_rows(void)
@@ -399,8 +366,6 @@ static void list_rows(void)
 static void print_head(void)
 {
     printf("Nanoseconds a point, least..greatest of %d placements of the code; each the least of %d samples.\n", library_count, samples);
-    if (limit_count > 0)
-        printf("Each cell: the call / its limit by SSE4.1%s / its floor.\n", limit_count > 1 ? " / its limit by AVX2" : "");
     printf("%-29s | %-23s | %8s", "call", "family", "n");
     print_cell("i16");
     print_cell("i32");
@@ -411,16 +376,10 @@ static void print_head(void)
 /* Opens the libraries of the command line, from the fourth word on. */
 static void open_libraries(int count, char **words)
 {
-    int *counted = &library_count;
     for (int k = 4; k < count; k++) {
-        if (strcmp(words[k], "--limits") == 0) {
-            counted = &limit_count;
-            continue;
-        }
-        if (library_count + limit_count == MOST_LIBRARIES)
+        if (library_count == MOST_LIBRARIES)
             must(NULL, "too many libraries");
-        libraries[library_count + limit_count] = must(dlopen(words[k], RTLD_NOW), "a library can't be opened");
-        *counted += 1;
+        libraries[library_count++] = must(dlopen(words[k], RTLD_NOW), "a library can't be opened");
     }
 }
 
@@ -441,20 +400,13 @@ int main(int count, char **words)
     word = words[2];
     largest = strtoull(words[3], NULL, 10);
     open_libraries(count, words);
-    if (library_count == 0)
-        return 2;
     stay();
     /* Freed memory stays with the process: otherwise who runs after whom decides who meets the page faults. */
     mallopt(M_TRIM_THRESHOLD, 1 << 30);
     mallopt(M_MMAP_THRESHOLD, 32 << 20);
     print_head();
-    if (limit_count > 0) {
-        for (size_t c = 0; c < sizeof limited / sizeof *limited; c++)
-            contour_rows(limited[c].name, limited[c].symbol, limited[c].floor, limited[c].families);
-        return 0;
-    }
     for (size_t c = 0; c < sizeof calls / sizeof *calls; c++)
-        contour_rows(calls[c].name, calls[c].symbol, NULL, calls[c].families);
+        contour_rows(calls[c].name, calls[c].symbol, calls[c].families);
     list_rows();
     return 0;
 }

@@ -3,7 +3,7 @@ import { readFile } from "node:fs/promises";
 import { load } from "../../bindings/js/src/i_shape.js";
 
 const MOST = 100_000;
-const SAMPLES = 15;
+const SAMPLES = 150;
 const POINTS = 200_000;
 
 const shapes = await load(readFile(process.argv[2]));

@@ -4,7 +4,7 @@
 #include <stdio.h>
 #include <time.h>
 
-enum { MOST = 100000, SAMPLES = 15, POINTS = 200000 };
+enum { MOST = 100000, SAMPLES = 150, POINTS = 200000 };
 
 static i_shape_point_i32 points[MOST], left[MOST];
 static size_t offsets[MOST / 10 + 1], left_offsets[MOST / 10 + 1];
