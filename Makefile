@@ -14,7 +14,7 @@ TO_MAN = $(DESTDIR)$(MANDIR)/man1
 C_OUT := bindings/c/out$(if $(TARGET)$(CPU),/$(TARGET)$(if $(TARGET),$(if $(CPU),-))$(CPU))
 PROGRAM := crates/i_shape_tool_main/out/$(if $(TARGET)$(CPU),$(TARGET)$(CPU)/i_shape_tool,i_shape_tool_main)
 
-.PHONY: test gate help check check-c fmt program c wasm page wheel postgres dist site pictures install install-program install-c install-postgres uninstall uninstall-program uninstall-c clean
+.PHONY: test gate help check check-c fmt program c wasm page wheel postgres sqlite dist site pictures install install-program install-c install-postgres install-sqlite uninstall uninstall-program uninstall-c uninstall-sqlite clean
 
 # The tests of behaviour, without a proof, by cargo. What isn't built is skipped.
 test:
@@ -50,7 +50,7 @@ program:
 c:
 	@bash bindings/c/build.sh $(if $(TARGET),--target $(TARGET)) $(if $(CPU),--cpu $(CPU))
 
-# The WebAssembly modules of the package for JavaScript, in bindings/js/out.
+# The WebAssembly module of the package for JavaScript, in bindings/js/out: by cargo, with Rust for wasm32-unknown-unknown or Debian's sources of it.
 wasm:
 	@bash bindings/js/build.sh
 
@@ -63,11 +63,16 @@ page: wasm
 wheel: $(if $(I_SHAPE_C_DIR),,c)
 	@sh bindings/python/build.sh
 
-# The extension of PostgreSQL, in bindings/postgres/out, for the server of pg_config or another PG_CONFIG=.., over the C library; it takes CPU=x86-64 too.
-postgres: c
+# The extension of PostgreSQL, in bindings/postgres/out, for the server of pg_config or another PG_CONFIG=.., over the C library or that of the folder I_SHAPE_C_DIR; it takes CPU=x86-64 too.
+postgres: $(if $(I_SHAPE_C_DIR),,c)
 	@rm -rf bindings/postgres/out
 	@mkdir -p bindings/postgres/out
-	@$(MAKE) -s -C bindings/postgres/out -f ../Makefile I_SHAPE_C_DIR=$(abspath $(C_OUT))
+	@$(MAKE) -s -C bindings/postgres/out -f ../Makefile I_SHAPE_C_DIR=$(abspath $(or $(I_SHAPE_C_DIR),$(C_OUT)))
+
+# The extension of SQLite, bindings/sqlite/out/mod_i_shape.so, over the C library or that of the folder I_SHAPE_C_DIR; it takes CPU=x86-64 too.
+sqlite: $(if $(I_SHAPE_C_DIR),,c)
+	@rm -rf bindings/sqlite/out
+	@$(MAKE) -s -f bindings/sqlite/Makefile I_SHAPE_C_DIR=$(abspath $(or $(I_SHAPE_C_DIR),$(C_OUT)))
 
 # What a release holds, in dist: docs/develop/README.md says what that is.
 dist:
@@ -117,11 +122,19 @@ uninstall-c:
 	rm -f "$(TO_INCLUDE)/i_shape.h" "$(TO_INCLUDE)/i_shape.hpp" "$(TO_LIB)/libi_shape.a" "$(TO_LIB)"/libi_shape.so* "$(TO_LIB)/pkgconfig/i_shape.pc"
 	rm -rf "$(TO_LIB)/cmake/i_shape"
 
-# Installs the extension, as `make postgres` has built it, into that server.
-install-postgres: c
+# Installs the extension of PostgreSQL, as `make postgres` has built it, into that server.
+install-postgres: $(if $(I_SHAPE_C_DIR),,c)
 	@mkdir -p bindings/postgres/out
-	@$(MAKE) -s -C bindings/postgres/out -f ../Makefile I_SHAPE_C_DIR=$(abspath $(C_OUT)) install
+	@$(MAKE) -s -C bindings/postgres/out -f ../Makefile I_SHAPE_C_DIR=$(abspath $(or $(I_SHAPE_C_DIR),$(C_OUT))) install
+
+# Installs the extension of SQLite, as `make sqlite` has built it, below PREFIX or in LIBDIR.
+install-sqlite: $(if $(I_SHAPE_C_DIR),,c)
+	@$(MAKE) -s -f bindings/sqlite/Makefile I_SHAPE_C_DIR=$(abspath $(C_OUT)) LIBDIR=$(LIBDIR) install
+
+# Removes the extension of SQLite.
+uninstall-sqlite:
+	rm -f "$(TO_LIB)/mod_i_shape.so"
 
 # Removes what is built and the kept work of the proofs.
 clean:
-	rm -rf crates/*/out bindings/c/out bindings/js/out bindings/postgres/out bindings/python/out rust/target docs/out examples/page/out dist
+	rm -rf crates/*/out bindings/c/out bindings/js/out bindings/postgres/out bindings/python/out bindings/sqlite/out rust/target docs/out examples/page/out dist

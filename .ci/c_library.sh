@@ -1,6 +1,6 @@
 #!/usr/bin/env bash
 # Builds the C library and tests it, with allocators that refuse each growth in turn, and under the address sanitizer and valgrind; i_shape.hpp by two compilers;
-# what is built, installed and found by CMake; and the programs of the pages.
+# what is built, installed and found by CMake; and the programs of the pages. With --quick by one compiler, and under neither of the tools.
 . "$(dirname "$0")/part.sh" || exit 1
 library=bindings/c/out
 archive=crates/i_shape_c/out/libi_shape_c.a
@@ -71,15 +71,19 @@ test_project() {
     rm -rf "$work/project"
 }
 
-# Which requests the version 0.1.5 serves.
+# Which requests the version 0.1.5 for Linux on x86-64 serves.
 test_versions() {
-    local request
+    local request machine
     mkdir "$work/versions"
-    sed 's/@VERSION@/0.1.5/' bindings/c/cmake/i_shape-config-version.cmake.in > "$work/versions/i_shape-config-version.cmake"
+    sed 's/@VERSION@/0.1.5/; s/@SYSTEM@/Linux/; s/@PROCESSOR@/x86_64|amd64/' bindings/c/cmake/i_shape-config-version.cmake.in > "$work/versions/i_shape-config-version.cmake"
     : > "$work/versions/i_shape-config.cmake"
     printf '%s\n' 'find_package(i_shape ${ASKED} QUIET PATHS "${CMAKE_CURRENT_LIST_DIR}/versions" NO_DEFAULT_PATH)' 'message(STATUS "${i_shape_FOUND}")' > "$work/ask.cmake"
     for request in '0.1 1' '0.1.6 0' '0.0 0' '0.2 0' '0.1...0.1.5 1' '0.1...<0.1.5 0' '0.1...0.1.4 0' '0.0...0.2 0'; do
         prints "CMake, the version 0.1.5 where it is asked for ${request% *}" "-- ${request#* }" cmake "-DASKED=${request% *}" -P "$work/ask.cmake"
+    done
+    for machine in 'Linux x86_64 1' 'Linux amd64 1' 'Linux aarch64 0' 'Darwin x86_64 0' 'Linux i686 0'; do
+        set -- $machine
+        prints "CMake, the version 0.1.5 where it is asked for on $1, $2" "-- $3" cmake -DASKED=0.1 "-DCMAKE_SYSTEM_NAME=$1" "-DCMAKE_SYSTEM_PROCESSOR=$2" -P "$work/ask.cmake"
     done
 }
 
@@ -100,11 +104,11 @@ test_install() {
     local to=$work/destdir lib=$work/destdir/usr/lib/of_a_machine soname
     local its=(DESTDIR="$to" PREFIX=/usr LIBDIR=/usr/lib/of_a_machine INCLUDEDIR=/usr/include/of_its_own)
     make -s install-c "${its[@]}" && soname=$(readelf -d "$lib/libi_shape.so" | sed -nE 's/.*SONAME.*\[(.*)\]/\1/p') &&
-        [ "$soname" = "libi_shape.so.$(scripts/version.sh | cut -d. -f1)" ] && [ -e "$lib/$soname" ] &&
-        grep -q "IMPORTED_SONAME $soname$" "$lib/cmake/i_shape/i_shape-targets.cmake"
+        [ "$soname" = "libi_shape.so.$(scripts/version.sh --soname)" ] && [ -e "$lib/$soname" ] &&
+        grep -q "IMPORTED_SONAME $soname)$" "$lib/cmake/i_shape/i_shape-targets.cmake"
     count $? 'make install-c: the name of the shared library'
     grep -qx 'includedir=/usr/include/of_its_own' "$lib/pkgconfig/i_shape.pc" &&
-        grep -q '"${i_shape_LIBRARY_DIR}/../../include/of_its_own"' "$lib/cmake/i_shape/i_shape-config.cmake"
+        grep -qF 'foreach(i_shape_HEADERS "../../include/of_its_own" ' "$lib/cmake/i_shape/i_shape-config.cmake"
     count $? 'make install-c: the folders that pkg-config and CMake name'
     make -s uninstall-c "${its[@]}" && [ -z "$(find "$to" ! -type d)" ]
     count $? 'make uninstall-c'
@@ -112,12 +116,13 @@ test_install() {
 
 has_built 'c library' bindings/c/build.sh || end_part
 test_names
-test_build
+[ -n "$is_quick" ] || test_build
 for program in bindings/c/{sample,codes}.c examples/{clean,polygons}.c; do
     test_program docs/C.md "$program" "${c[@]}"
 done
-test_cpp g++ -O2
-test_cpp clang++ -O0
+# one compiler does where time counts, the quicker of the two
+if [ -z "$is_quick" ] || ! command -v clang++ > /dev/null; then test_cpp g++ -O2; fi
+if [ -z "$is_quick" ] || command -v clang++ > /dev/null; then test_cpp clang++ -O0; fi
 test_refused_points
 test_cmake
 test_install
@@ -127,18 +132,10 @@ test_as 'C11' "${tests[@]}" "$library/libi_shape.a"
 test_hashes 'C11' "$library/libi_shape.a" "${CC:-cc}"
 test_as 'C++17' "${CXX:-c++}" -std=c++17 -x c++ bindings/c/test.c -x none "$library/libi_shape.a"
 test_as 'C11, shared' "${tests[@]}" "$library/libi_shape.so" "-Wl,-rpath,$PWD/$library"
-test_as 'the allocator for other machines' "${tests[@]}" $other "$library/libi_shape.a"
 test_as 'each growth refused' "${tests[@]}" -DOWN_ALLOCATOR "$library/libi_shape.a"
+[ -z "$is_quick" ] || end_part
+test_as 'the allocator for other machines' "${tests[@]}" $other "$library/libi_shape.a"
 test_as 'the allocator for other machines, each growth refused' "${tests[@]}" -DWRAPPED_MALLOC -Wl,--wrap=malloc,--wrap=realloc,--wrap=free $other \
     "$library/libi_shape.a"
-sanitizers=(-fsanitize=address,undefined -fno-sanitize-recover=undefined)
-if needs 'address sanitizer' 'the compiler has none that runs here' compiles_with "${sanitizers[@]}"; then
-    test_as 'address sanitizer' "${tests[@]}" $other "${sanitizers[@]}" "$library/libi_shape.a"
-    test_as 'address sanitizer, each growth refused' "${tests[@]}" "${sanitizers[@]}" -DOWN_ALLOCATOR "$library/libi_shape.a"
-    test_as 'address sanitizer, i_shape.hpp' "${CXX:-c++}" -std=c++17 "${sanitizers[@]}" bindings/c/test.cpp "$library/libi_shape.a"
-fi
-if has valgrind valgrind; then
-    runner=(valgrind -q --error-exitcode=9 --leak-check=full)
-    test_as 'valgrind' "${tests[@]}" -DOWN_ALLOCATOR "$library/libi_shape.a"
-fi
+test_hardened '' "$library/libi_shape.a"
 end_part

@@ -114,7 +114,7 @@ test_windows() {
     cp $library/i_shape.dll "$work"
     test_archive 'Windows' $library/libi_shape.a "${c[@]}"
     test_as 'Windows, DLL' "${c[@]}" $tests $library/libi_shape.dll.a
-    add 'the tests of retarget.py' python3 bindings/module/test_retarget.py windows
+    add 'the tests of retarget.py' python3 bindings/c/windows/test_retarget.py
     prints 'Windows: what the DLL asks for' $'KERNEL32.dll\nmsvcrt.dll' bash -c "x86_64-w64-mingw32-objdump -p $library/i_shape.dll | sed -n 's/^\s*DLL Name: //p' | sort"
     "$python" - << 'PROGRAM' > "$work/contours"
 import math, random
@@ -128,37 +128,62 @@ PROGRAM
     count $? 'Windows: the answers to random contours'
 }
 
-# Cargo builds the C library for the target $1, and Rust's core and alloc for it, of Debian's sources. Sums that overflow would abort.
-build_by_cargo() {
-    (cd rust && RUSTC=/usr/bin/rustc RUSTC_BOOTSTRAP=1 CARGO_PROFILE_DEV_DEBUG=0 CARGO_TARGET_DIR=$by_cargo nice -n 5 cargo --offline \
-        --config 'source.crates-io.replace-with="debian"' --config "source.debian.directory='$rust_library/vendor'" \
-        --config profile.dev.package.i_shape_c_library.opt-level=1 rustc -Zbuild-std=core,alloc --locked --quiet -p i_shape_c_library --lib --crate-type staticlib --target "$1")
+# The words from $2 on, in the workspace, where cargo takes the compiler $1, of Debian, and a folder of its own.
+by_debian() { (cd rust && export RUSTC=$1 CARGO_PROFILE_DEV_DEBUG=0 CARGO_TARGET_DIR=target/elsewhere && "${@:2}"); }
+
+# Cargo builds a package for the target $1 by the words from $2 on, and Rust's core and alloc for it, of Debian's sources. Sums that overflow would abort.
+build_for() {
+    RUSTC_BOOTSTRAP=1 by_debian /usr/bin/rustc nice -n 5 cargo --offline --config 'source.crates-io.replace-with="debian"' --config "source.debian.directory='$rust_library/vendor'" \
+        --config profile.dev.package.i_shape_c_library.opt-level=1 "${@:2}" -Zbuild-std=core,alloc --locked --quiet --target "$1"
 }
 
-# The tests over the library that cargo builds for the target $2, by the C compiler $3. The words of the array runner run them, by the program $4.
-test_target() {
-    local name="cargo for $1" library=$by_cargo/$2/debug/libi_shape.a c=("$3" -std=c11 -static)
+# The library that cargo builds for the target $2 answers as recorded. The C compiler $3 links it, and the words of the array runner run it, by the program $4.
+test_target_hashes() {
+    name="cargo for $1" library=$PWD/rust/target/elsewhere/$2/debug/libi_shape.a c=("$3" -std=c11 -static)
     has "$name" "$3" "$4" || return
     rm -f "$library"
-    check "$name: the library" build_by_cargo "$2"
-    test_as "$name" "${c[@]}" $tests "$library"
+    check "$name: the library" build_for "$2" rustc -p i_shape_c_library --lib --crate-type staticlib
     test_hashes "$name" "$library" "${c[@]}"
+}
+
+# The same, and the tests of C pass over it.
+test_target() {
+    local name library c
+    test_target_hashes "$@" || return
+    test_as "$name" "${c[@]}" $tests "$library"
     # a program brings its own allocator where names can be weak
     [[ $2 = *windows* ]] || test_as "$name, each growth refused" "${c[@]}" -DOWN_ALLOCATOR $tests "$library"
 }
 
-# $1 is --if-built where nothing is to be built.
+# Where bytes lie the other way round, at 32 bits, and without weak names all tests run, elsewhere the hashes alone. For a target without a system the crate for Rust
+# compiles.
 test_targets() {
-    local by_cargo=$PWD/rust/target/elsewhere rust_library=/usr/lib/rustlib/src/rust/library
-    needs 'cargo for other targets' 'the gate builds them' [ "$1" != --if-built ] &&
-        needs 'cargo for other targets' "Debian's rustc-web and rust-web-src aren't installed" dpkg -s rustc-web rust-web-src &&
+    local name library c rust_library=/usr/lib/rustlib/src/rust/library
+    needs 'cargo for other targets' "Debian's rustc-web and rust-web-src aren't installed" dpkg -s rustc-web rust-web-src &&
         has 'cargo for other targets' cargo /usr/bin/rustc || return
     runner=(qemu-s390x) && test_target 's390x, big-endian' s390x-unknown-linux-gnu s390x-linux-gnu-gcc qemu-s390x
     runner=(qemu-i386) && test_target 'i686, 32 bits' i686-unknown-linux-gnu i686-linux-gnu-gcc qemu-i386
     runner=(by_wine) && test_target Windows x86_64-pc-windows-gnu x86_64-w64-mingw32-gcc wine
+    runner=(qemu-aarch64) && test_target_hashes aarch64 aarch64-unknown-linux-gnu aarch64-linux-gnu-gcc qemu-aarch64
+    runner=(qemu-riscv64) && test_target_hashes riscv64 riscv64gc-unknown-linux-gnu riscv64-linux-gnu-gcc qemu-riscv64
+    runner=(qemu-arm) && test_target_hashes 'armv7, 32 bits' armv7-unknown-linux-gnueabihf arm-linux-gnueabihf-gcc qemu-arm
+    runner=() && test_target_hashes musl x86_64-unknown-linux-musl musl-gcc musl-gcc
+    check 'cargo for thumbv7em: the crate for Rust' build_for thumbv7em-none-eabihf build -p i_shape
 }
 
-test_targets "${1-}"
+# The oldest Rust that the packages take compiles them, and the tests of the crate for Rust pass by it. Debian has it beside later ones, so .ci/run unpacks it.
+test_oldest_rust() {
+    local version its
+    version=$(sed -n 's/^rust-version = "\(.*\)"/\1/p' rust/Cargo.toml)
+    its=${XDG_CACHE_HOME:-$HOME/.cache}/raspochre/rust-$version/usr
+    local -x LD_LIBRARY_PATH=$its/lib/$(uname -m)-linux-gnu
+    needs "Rust $version" "$its/bin has none" bash -c '[[ $("$1" --version) = "rustc $2."* ]]' . "$its/bin/rustc" "$version" && has "Rust $version" cargo || return
+    check "Rust $version: each package" by_debian "$its/bin/rustc" nice -n 5 cargo --offline check --workspace --lib --bins --tests --examples --locked --quiet
+    add "Rust $version: the tests of the crate for Rust" by_debian "$its/bin/rustc" test_crate -p i_shape --tests
+}
+
+test_targets
+test_oldest_rust
 has_built elsewhere $build || end_part
 test_aarch64
 test_program

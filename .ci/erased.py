@@ -1,12 +1,12 @@
 #!/usr/bin/env python3
 """Checks erased Rust against its source, by code that it doesn't share with the eraser.
 
-usage: .ci/erased.py FOLDER
+usage: .ci/erased.py FOLDER [BUILD]
 
 FOLDER is what the eraser has written: in `erased` the Rust, in `cuts` what was cut from each file. For each file there are two tests. What was cut, put back, is
 the source byte for byte, and each cut is a construct that may be cut, with what may be put in its place (docs/develop/ERASER.md has the table). And token by token
 the Rust is the source without its contracts: a second eraser, of tokens, makes the same of both. Each source is that of its file's place, no public import goes, and
-of a source without a file the second eraser leaves nothing."""
+of a source without a file the second eraser leaves nothing, unless the build script BUILD leaves its module out."""
 import json
 import re
 import sys
@@ -14,20 +14,40 @@ from pathlib import Path
 
 TOP = Path(__file__).resolve().parents[1]
 SHIM = "fallible"
+CRATES = [line.split(":")[0].split()[0] for line in (TOP / "crates.txt").read_text().splitlines()]
+CRATE = "(?:" + "|".join(sorted(CRATES, reverse=True)) + ")"
+# The files that are of no source: the modules of all, and what C calls.
+WRITTEN = {Path("mod.rs"), Path("lending.rs")}
 TOKEN = re.compile(r'//[^\n]*|"(?:[^"\\]|\\.)*"|\'(?:[^\'\\\n]|\\[^\n]{1,9}?)\'|\'\w+|\w+|::|\S', re.S)
 CLOSES = {"{": "}", "(": ")", "[": "]"}
 OF_CRATE = ["pub", "(", "crate", ")"]
 # What the Rust has for words of the source.
 WORDS = {
     "std::alloc::": "crate::erased::fallible::alloc::",
-    "std::simd::": "crate::erased::fallible::simd::",
     "std::vec::Vec": "$crate::erased::fallible::Vec",
     "str::from_utf8": "core::str::from_utf8",
     "str::from_utf8_unchecked": "core::str::from_utf8_unchecked",
     ".cast_unsigned()": ".to_unsigned()",
-    ".read_to_end(&mut bytes)": ".read_to_end(bytes.as_read_buffer())",
+    ".read_to_end(": ".fallible_read_to_end(",
+    "const HAS_WIDE_PRODUCTS: bool = true;":
+        "const HAS_WIDE_PRODUCTS: bool = cfg!(any(target_feature = \"sse4.1\", not(target_arch = \"x86_64\")));",
     "fn fmt<W: fmt::Write>(&self, f: &mut fmt::Formatter<W>)": "fn fmt(&self, f: &mut fmt::Formatter<'_>)",
+    # what only tests use
+    "std::collections::BTreeSet": "crate::host::BTreeSet",
+    "std::env": "crate::host::env",
+    "std::process::Abort": "crate::host::Abort",
+    "std::test::Fail": "crate::host::Fail",
+    "Print": "crate::host::Print",
+    "Fail::new(": "Fail::from(",
+    ".collect(": ".fallible_collect(",
+    ".expect(rt, name)": ".expect(name)",
+    ".repeat(": ".fallible_repeat(",
+    ".to_vec(": ".fallible_to_vec(",
 } | {f"std::{part}": f"core::{part}" for part in ("cmp", "error", "fmt", "iter", "mem", "ops", "slice")}
+# What is imported for words of Rattle's prelude.
+ADDED = {f"crate::erased::{SHIM}::{name}" for name in ("String", "Unsigned as _", "Vec", "vec")} | {
+    f"crate::host::Fallible{name} as _" for name in ("Collect", "Read", "Repeat", "ToVec")}
+NAMES = r"(?:\w+(?: as _)?|\{\w+(?: as _)?(?:, \w+(?: as _)?)+\})"
 BALANCED = r"\{(?:[^{}]|\{(?:[^{}]|\{(?:[^{}]|\{[^{}]*\})*\})*\})*\}"
 COMMENTS = r"(?:[ \t]*//[^\n]*\n)*"
 ATTRIBUTES = r"(?:[ \t]*#\[[^\n]*\]\n)*"
@@ -39,14 +59,15 @@ CUTS = {
     "law": (HEAD + rf"[ \t]*(?:pub(?:\(\w+\))? )?fn \w+(?:(?! -> |\bself\b)[^{{}}])*(?:\s+(?:requires|ensures)\*?(?: \w+)? {BALANCED})+\s*\{{\}}\n", r""),
     "attribute": (r"[ \t]*#(?:!?\[tactic\(.*\)\]|\[unsafe\(no_mangle\)\]|\[derive\(Drop\)\]|!\[no_std\]|\[macro_export\])\n", r""),
     "bound by Drop": (r": Drop| \+ Drop|#\[derive\((?:\w+, )+Drop", r"|#\[derive\(\w+(?:, \w+)*"),
-    "impl of Model": (r"impl(?:<.*>)? Model for .*\n\}\n", r""),
+    "impl of Model": (HEAD + r"impl(?:<.*>)? Model for .*\n\}\n", r""),
     "extern": (r'extern "C" ', r""),
     "import": (r"use [^;]*;\n|\{[\w, ]*\}", r"|\w+|\{[\w, ]*\}"),
-    "module": (r"(?:pub )?mod \w+;\n|", r"|pub "),
+    "module": (r"(?:#\[cfg\(test\)\]\n)?(?:pub )?mod \w+;\n|", r"|pub "),
     "exported macro": (r"", r"_macro|#\[macro_use\]\n|\npub\(crate\) use \{(?:\w+_macro as \w+(?:, )?)+\};"),
     "word of std": ("|".join(map(re.escape, WORDS)), "|".join(map(re.escape, WORDS.values()))),
-    "path of a crate": (r"crate|i_shape\w*", r"crate::erased::\w+"),
-    "import of the shim": (r"", r"use crate::erased::fallible::(?:\w+(?: as _)?|\{\w+(?: as _)?(?:, \w+(?: as _)?)+\});\n\n?"),
+    "path of a crate": (rf"crate|{CRATE}", r"crate::erased::\w+"),
+    "import of the shim": (r"", rf"(?:use crate::(?:erased::{SHIM}|host)::{NAMES};\n)+\n?"),
+    "runtime of a test": (r"\s*\w+: HostRuntime,?\s*|", r"|\n    let \w+ = crate::host::HostRuntime::new\(\);"),
     "blank lines": (r"\s+", r""),
 }
 
@@ -148,11 +169,15 @@ def text_of_source(text, crate, has_module):
     for source, rust in WORDS.items():
         text = text.replace(f" {spaced(source)} ", f" {spaced(rust)} ")
     text = re.sub(r" (\$ )?crate ::", lambda found: f" {found[1] or ''}crate :: erased :: {crate} ::", text)
-    text = re.sub(r"(?<!::) (i_shape\w*) ::", r" crate :: erased :: \1 ::", text)
-    text = text.replace(f"crate :: erased :: {crate} :: erased ::", "crate :: erased ::")
+    text = re.sub(rf"(?<!::) ({CRATE}) ::", r" crate :: erased :: \1 ::", text)
+    for module in ("erased", "host"):
+        text = text.replace(f"crate :: erased :: {crate} :: {module} ::", f"crate :: {module} ::")
+    text = re.sub(r"(# \[ test \] fn \w+ \() (\w+) : HostRuntime (?:, )?(\)[^{;]*\{)", r"\1 \3 let \2 = crate :: host :: HostRuntime :: new ( ) ;", text)
     text = re.sub(r"# \[ macro_export \] macro_rules ! (\w+)", r"macro_rules ! \1_macro", text)
     # of a library for C the modules are public
-    text = re.sub(r" (pub )?mod (\w+) ;", lambda found: f" {'pub ' if crate.endswith('_c') else found[1] or ''}mod {found[2]} ;" if has_module(found[2]) else "", text)
+    public = "pub " if crate.endswith("_c") else ""
+    text = re.sub(r" (# \[ cfg \( test \) \] )?(pub )?mod (\w+) ;",
+                  lambda found: f" {found[1] or ''}{public or found[2] or ''}mod {found[3]} ;" if has_module(found[3]) else "", text)
     return text.split()
 
 
@@ -164,7 +189,7 @@ def imports(text, crate, visibility=r"(?:pub(?:\(crate\))? )?"):
     """The whole paths that the text imports, as the Rust names them. Groups in groups are none of the source's."""
     text = re.sub(r"//[^\n]*", "", text)
     for head, names in re.findall(rf"^\s*{visibility}use ((?:\w+::)*)(\w+|\*|\{{[^;]*\}});", text, re.M):
-        head = re.sub(r"^crate::(?!erased::)", f"crate::erased::{crate}::", re.sub(r"^i_shape\w*::", lambda found: f"crate::erased::{found[0]}", head))
+        head = re.sub(r"^crate::(?!erased::|host::)", f"crate::erased::{crate}::", re.sub(rf"^{CRATE}::", lambda found: f"crate::erased::{found[0]}", head))
         for name in filter(None, map(str.strip, names.strip("{}").split(","))):
             path = head + name
             for source, rust in WORDS.items():
@@ -214,29 +239,34 @@ def test_file(rust_path, folder, sources):
     theirs = text_of_rust(erased.decode())
     yield None if ours == theirs else first_difference(ours, theirs)
     added = set(imports(erased.decode(), crate)) - set(imports(source.decode(), crate))
-    added -= {f"crate::erased::fallible::{name}" for name in ("String", "Unsigned as _", "Vec", "vec")}
-    added = {path for path in added if not re.fullmatch(r"(\w+)_macro as \1", path)}
+    added = {path for path in added - ADDED if not re.fullmatch(r"(\w+)_macro as \1", path)}
     yield f"no import of the source: {sorted(added)}" if added else None
     gone = set(imports(source.decode(), crate, "pub ")) - set(imports(erased.decode(), crate, "pub "))
     yield f"a public import is gone: {sorted(gone)}" if gone else None
 
 
-def faults_of(folder):
-    """The place of each test, and what is wrong there."""
-    tops = [path for path in (folder / "erased").glob("*.rs") if path.name != "mod.rs"]
-    sources = dict(source for path in tops for source in sources_of(path.stem))
-    places = {path.relative_to(folder / "erased") for path in (folder / "erased").rglob("*.rs")} - {Path("mod.rs")}
+def left_out(build):
+    """The places of the modules that a build script leaves out."""
+    return {Path(*module.split("::")) for module in re.findall(r'"(\w+(?:::\w+)+)"', build.read_text())}
+
+
+def faults_of(folder, modules):
+    """The place of each test, and what is wrong there. Of these modules there is no file."""
+    places = {path.relative_to(folder / "erased") for path in (folder / "erased").rglob("*.rs")} - WRITTEN
+    sources = dict(source for crate in {place.with_suffix("").parts[0] for place in places} for source in sources_of(crate))
     for place in sorted(places):
         yield from ((place, fault) for fault in test_file(folder / "erased" / place, folder, sources))
     for place in sorted(sources.keys() - places):
-        yield place, test_left_out(place, sources[place], folder)
+        if modules.isdisjoint([place.with_suffix(""), *place.parents]):
+            yield place, test_left_out(place, sources[place], folder)
     if not places:
         yield folder, "it has no erased file"
 
 
 def main():
+    folder, *builds = map(Path, sys.argv[1:])
     passed, failed = 0, 0
-    for place, fault in faults_of(Path(sys.argv[1])):
+    for place, fault in faults_of(folder, left_out(*builds) if builds else set()):
         passed, failed = passed + (fault is None), failed + (fault is not None)
         if fault:
             print(f"failed: {place}: {fault}")

@@ -1,5 +1,5 @@
 #!/usr/bin/env python3
-"""Checks what the pages show: README.md, CHANGELOG.md, docs/*.md, docs/develop/*.md and the READMEs of examples and of bench.
+"""Checks what the pages show: README.md, CHANGELOG.md, docs/*.md, docs/develop/*.md and the READMEs of examples.
 
 usage: .ci/pages.py [PAGE..]
 
@@ -10,7 +10,7 @@ usage: .ci/pages.py [PAGE..]
 - a block `console`: its commands run in order, as in one shell at the top of a clone named raspochre, each printing what stands below it;
 - the links within the repository: the page is there, and the heading; and no line of a merge is left;
 - docs/develop/README.md has an item for each part of the gate, and names each edit of must-fail/ and no edit that isn't there;
-- the version in CHANGELOG.md, the archive, the packages for Python and JavaScript and the crate for Rust is that of the header.
+- the version in CHANGELOG.md, the archive, the packages for Python and JavaScript, the extension of PostgreSQL and the crate for Rust is that of the header.
 
 A block `console` names what has to be there, as in `console library python`, and is skipped where it isn't; what is skipped for one reason counts as one.
 """
@@ -26,7 +26,7 @@ sys.dont_write_bytecode = True
 import parts  # noqa: E402
 
 TOP = parts.TOP
-PAGES = ["README.md", "CHANGELOG.md", "docs/*.md", "docs/develop/*.md", "examples/*/README.md", "bench/*/README.md"]
+PAGES = ["README.md", "CHANGELOG.md", "docs/*.md", "docs/develop/*.md", "examples/*/README.md"]
 RUST = ["crates/*/src/**/*.rt", "rust/**/*.rs", "examples/**/*.rs", "bench/**/*.rs"]
 C = ["bindings/c/*.c", "bindings/c/*.cpp", "bindings/c/*.h", "examples/**/*.c", "bench/**/*.c", "include/*.h", "include/*.hpp"]
 JAVASCRIPT = ["bindings/js/*.js", "examples/*.mjs"]
@@ -40,11 +40,13 @@ NEEDED = {
               "there is no rt, or the libraries aren't proved"),
     "program": ("bash scripts/program/build.sh --is-built", "the program isn't built"),
     "library": ("bash bindings/c/build.sh --is-built", "the C library isn't built"),
-    "wasm": ("bash bindings/js/build.sh --is-built", "the WebAssembly modules aren't built"),
+    "wasm": ("bash bindings/js/build.sh --is-built", "the WebAssembly module isn't built"),
     "node": ("node -e 'process.exit(parseInt(process.versions.node) < 20 ? 1 : 0)'", "there is no Node from 20 on"),
     "clipper": ("test -e /usr/include/polyclipping/clipper.hpp", "there is no clipper"),
     "python": ("/usr/bin/python3 -c 'import numpy.typing, setuptools, wheel, venv, ensurepip'", "Debian's Python has no numpy, setuptools, wheel or venv"),
     "postgres": ("test -n \"$PGHOST\" && psql -Atc 'SELECT 1' && test -w \"$(pg_config --sharedir)/extension\"", "there is no server of PostgreSQL to install into"),
+    "sqlite": ("sqlite3 --version && test -e /usr/include/sqlite3ext.h", "there is no sqlite3, or no sqlite3ext.h"),
+    "gdal": ("ogr2ogr --version", "there is no GDAL"),
     "cargo": ("cargo metadata --offline --no-deps --format-version 1 --manifest-path rust/Cargo.toml", "there is no cargo from 1.85 on"),
 }
 LONGEST = 600  # seconds that a command of a page may take
@@ -191,6 +193,7 @@ def fault_of_version():
         "crates/i_shape_c/src/version.rt": rf"MAJOR: u32 = {major};.*MINOR: u32 = {minor};.*PATCH: u32 = {patch};",
         "rust/Cargo.toml": rf'^version = "{version}"$',
         "bindings/js/package.json": rf'^ *"version": "{version}",$',
+        "bindings/postgres/i_shape.control": rf"^default_version = '{major}\.{minor}'$",
         "bindings/python/src/i_shape/_library.py": rf"^_VERSION = 0x{major:02x}{minor:02x}\b",
         "CHANGELOG.md": rf"\A(?:(?!\n## ).)*\n## {version}\n",
     }

@@ -1,12 +1,15 @@
 # For the scripts of the parts, which source this first: they run at the top of the checkout, have a folder $work, and count in $passed, $failed and $skipped.
-# $only_built is --if-built where nothing that would be proved is to be built: by the word of the script, or because there is no rt.
+# $is_quick holds where the script's word is --quick, as `make test` gives it: each test runs once, over a plain build of what is built. $only_built holds where nothing
+# that would be proved is to be built: then, or because there is no rt.
 set -u
 cd "$(dirname "${BASH_SOURCE[0]}")/.." || exit 1
 export LC_ALL=C PYTHONDONTWRITEBYTECODE=1
 unset PYTHONPATH PYTHONHOME
 part=$(basename "$0" .sh | tr _ ' ')
-only_built=${1-}
-command -v rt > /dev/null || only_built=--if-built
+is_quick='' plain=()
+[ "${1-}" != --quick ] || { is_quick=yes && plain=(-O0 -g0); }
+only_built=$is_quick
+command -v rt > /dev/null || only_built=yes
 python=${PYTHON:-/usr/bin/python3}
 corners=$'0 0\n4 0\n4 4\n0 4'
 warnings=(-Wall -Wextra -Wpedantic -Wconversion -Werror)
@@ -76,7 +79,7 @@ takes_cargo() { [ "$*" = bindings/c/build.sh ] && ! command -v rt > /dev/null &&
 
 # Whether the script $2, with the words from $3 on, builds what the tests $1 need, or has built it. They are skipped where it may not, and fail where it can't.
 has_built() {
-    [ "$only_built" != --if-built ] || takes_cargo "${@:2}" || needs "$1" "$2 has not built what it needs" bash "$2" --is-built "${@:3}" || return
+    [ -z "$only_built" ] || takes_cargo "${@:2}" || needs "$1" "$2 has not built what it needs" bash "$2" --is-built "${@:3}" || return
     bash "$2" "${@:3}" > "$work/log" 2>&1 || { cat "$work/log" && count 1 "$1: what it needs isn't built" && return 1; }
 }
 
@@ -96,7 +99,7 @@ end_part() {
 # Whether the compiler makes programs with these flags that run here.
 compiles_with() { { echo 'int main(void) { return 0; }' | "${CC:-cc}" -x c "$@" -o "$work/probe" - && "$work/probe"; } > /dev/null 2>&1; }
 
-compile_and_run() { "$1" -O1 -g "${warnings[@]}" -Iinclude -pthread -o "$work/tests" "${@:2}" && "${runner[@]}" "$work/tests"; }
+compile_and_run() { "$1" -O1 -g "${warnings[@]}" -Iinclude -pthread -o "$work/tests" "${@:2}" "${plain[@]}" && "${runner[@]}" "$work/tests"; }
 
 # Compiles the tests $1 of the C library by the words from $2 on, and runs them by the words of the array runner.
 test_as() {
@@ -106,10 +109,25 @@ test_as() {
 
 # Compares the answers of the library $1 with those that are recorded, by a program that the words from $2 on compile, and that the words of the array runner run.
 compare_hashes() {
-    "${@:2}" -std=c11 -O2 "${warnings[@]}" -Iinclude bindings/c/check/hashes.c "$1" -o "$work/hashes" && "${runner[@]}" "$work/hashes" -c "$PWD/bindings/c/check/hashes.txt"
+    "${@:2}" -std=c11 -O2 "${warnings[@]}" "${plain[@]}" -Iinclude bindings/c/check/hashes.c "$1" -o "$work/hashes" && "${runner[@]}" "$work/hashes" -c "$PWD/bindings/c/check/hashes.txt"
 }
 
 test_hashes() { add "$1, the hashes of its answers" compare_hashes "${@:2}"; }
+
+# The tests of C and C++ over the archive $2 under the address sanitizer and valgrind. $1 comes before their names. Their allocators are other than the archive's.
+test_hardened() {
+    local tests=("${CC:-cc}" -std=c11 bindings/c/test.c) runner=() sanitizers=(-fsanitize=address,undefined -fno-sanitize-recover=undefined)
+    if needs "$1address sanitizer" 'the compiler has none that runs here' compiles_with "${sanitizers[@]}"; then
+        test_as "$1address sanitizer" "${tests[@]}" bindings/c/allocator.c "${sanitizers[@]}" "$2"
+        test_as "$1address sanitizer, each growth refused" "${tests[@]}" "${sanitizers[@]}" -DOWN_ALLOCATOR "$2"
+        test_as "$1address sanitizer, i_shape.hpp" "${CXX:-c++}" -std=c++17 "${sanitizers[@]}" bindings/c/test.cpp "$2"
+        test_hashes "$1address sanitizer" "$2" "${CC:-cc}" "${sanitizers[@]}"
+    fi
+    if has "${1}valgrind" valgrind; then
+        runner=(valgrind -q --error-exitcode=9 --leak-check=full)
+        test_as "${1}valgrind" "${tests[@]}" -DOWN_ALLOCATOR "$2"
+    fi
+}
 
 # Compiles the program $3 that answers as the library $2 does at the width $1, by the words from $4 on.
 compile_answers() {
@@ -124,9 +142,9 @@ declared() {
 # What the page $1 says that the command with $2 in it prints.
 shown() { awk -v name="$2" '/^```$/ || /^\$ / { is_its = 0 } is_its { print } /^\$ / && index($0, name) { is_its = 1 }' "$1"; }
 
-# The tests of the crate or workspace of Rust in this folder.
+# The tests of the crate or workspace of Rust in this folder, by the words of cargo.
 test_crate() {
-    cargo test --offline --locked --quiet > "$work/told" 2>&1
+    cargo test --offline --locked --quiet "$@" > "$work/told" 2>&1
     local status=$?
     [ "$status" = 0 ] || cat "$work/told"
     awk '/^test result:/ { passed += $4; failed += $6 } END { print passed + 0 " passed, " failed + 0 " failed" }' "$work/told"

@@ -25,14 +25,13 @@ import time
 TOP = os.path.dirname(os.path.dirname(os.path.realpath(__file__)))
 COUNTS = re.compile(r"^(?:[a-z. ]+: |test result: .*\. )?(\d+) passed[,;] (\d+) failed(?:, (\d+) skipped$|;.*$|$)", re.MULTILINE)
 LEFT_OUT = shutil.ignore_patterns(".git", "out", "target", "dist", "environment", "__pycache__")
-# What cargo builds and tests, and beside it, one after another, the parts of what may be built.
-BY_CARGO = ".ci/cargo.sh"
-OF_WHAT_IS_BUILT = (".ci/c_library.sh --if-built", ".ci/elsewhere.sh --if-built", ".ci/python_package.sh", ".ci/javascript.sh --if-built",
-                    ".ci/dist.sh --if-built", ".ci/scaling.sh", ".ci/pictures.sh", "nice -n 5 python3 .ci/pages.py")
+# The parts of the tests, in the order in which they start, two at a time: the longest first, and the pages, which show what others build, last.
+TESTS = (".ci/cargo.sh --quick", ".ci/c_library.sh --quick", ".ci/python_package.sh --quick", ".ci/postgres.sh --quick", ".ci/sqlite.sh --quick",
+         ".ci/javascript.sh --quick", ".ci/scaling.sh", ".ci/pictures.sh", "python3 .ci/pages.py")
 # The parts of the gate, before and after the proofs. Those after them rest on the C library, and run in two lanes once it has been tested.
 BEFORE_PROOFS = ("python3 .ci/test_ci.py", "scripts/widths.sh --check")
 C_LIBRARY = ".ci/c_library.sh"
-LANES = ((BY_CARGO, ".ci/elsewhere.sh", ".ci/long_tests.sh"),
+LANES = ((".ci/cargo.sh --rest", ".ci/elsewhere.sh", ".ci/sqlite.sh", ".ci/qgis.sh", ".ci/long_tests.sh"),
          (".ci/python_package.sh", ".ci/postgres.sh", ".ci/javascript.sh", ".ci/dist.sh", "python3 .ci/refusals.py", ".ci/scaling.sh", ".ci/pictures.sh",
           "python3 .ci/pages.py"))
 AFTER_PROOFS = (C_LIBRARY, *LANES[0], *LANES[1])
@@ -156,9 +155,9 @@ class Parts:
 
 
 def run_tests(parts):
-    by_cargo = parts.beside(Parts.run, BY_CARGO, TOP)
-    parts.run_all(OF_WHAT_IS_BUILT, TOP)
-    by_cargo.join()
+    left = iter(TESTS)
+    for lane in [parts.beside(Parts.run_all, left, TOP) for _ in range(2)]:
+        lane.join()
 
 
 def try_wrong_bodies_of_core(parts, copy):

@@ -1,11 +1,10 @@
 #!/usr/bin/env bash
 # Builds the extension of PostgreSQL over the library of `make c`, and tests it in a server of its own: a copy of the installed one, whose data, socket and
-# extensions lie in the folder of this run, and which runs as nobody where root runs this.
+# extensions lie in the folder of this run, and which runs as nobody where root runs this. With --quick no growth is refused.
 . "$(dirname "$0")/part.sh" || exit 1
 config=${PG_CONFIG:-/usr/lib/postgresql/15/bin/pg_config}
 library=$PWD/bindings/c/out
 here=bindings/postgres
-sanitizers=(-fsanitize=address,undefined -fno-sanitize-recover=undefined)
 needs postgres 'there is no server of PostgreSQL 15 with its headers' [ -e "$("$config" --includedir-server 2> /dev/null)/postgres.h" ] || end_part
 needs postgres 'there is no PostGIS for PostgreSQL 15' [ -e "$("$config" --sharedir)/extension/postgis.control" ] || end_part
 has_c_library postgres || end_part
@@ -38,15 +37,19 @@ build() {
     make -s -C "$1" -f "$PWD/$here/Makefile" "PG_CONFIG=$bin/pg_config" "I_SHAPE_C_DIR=$library" "${@:2}"
 }
 
+# `make postgres` and `make install-postgres` over the library in another folder, as that of a release, build none.
+test_folder() {
+    local folder=$work/release
+    # make runs the inner make where it only prints what it would do
+    mkdir -p "$folder/glibc-hwcaps" bindings/postgres/out && cp "$library/libi_shape.a" "$folder"
+    check 'make postgres I_SHAPE_C_DIR=..: no C library is built' fails grep -q bindings/c/build.sh <(make -n postgres install-postgres "I_SHAPE_C_DIR=$folder")
+    check 'make postgres I_SHAPE_C_DIR=..' make -s postgres "I_SHAPE_C_DIR=$folder" "PG_CONFIG=$bin/pg_config"
+    [ -e bindings/postgres/out/i_shape.so ] && ! strings bindings/postgres/out/i_shape.so | grep -q 'Build the extension with CPU=x86-64'
+    count $? 'make postgres I_SHAPE_C_DIR=..: the library of a release is for each x86-64'
+}
+
 # A statement, or more words, of psql. An error ends it, and is told as an answer.
 ask() { psql -XAtq -v ON_ERROR_STOP=1 "$@" 2>&1; }
-
-# The reader, the writers and the order of forms, over mutated WKB. No block is left, which the sanitizer looks for at the end.
-test_fuzz() {
-    needs 'mutated WKB' 'the compiler has no address sanitizer that runs here' compiles_with "${sanitizers[@]}" || return
-    "${CC:-cc}" -g -O1 "${sanitizers[@]}" -Iinclude "-I$here" "$here"/tests/fuzz.c "$here"/{wkb,forms}.c "$library/libi_shape.a" -lm -o "$work/fuzz"
-    check 'mutated WKB' "$work/fuzz" 1000000
-}
 
 test_regress() {
     local name
@@ -78,6 +81,25 @@ test_python_keys() {
         count(*) FILTER (WHERE i_shape_key(ST_GeomFromEWKB(wkb), 0.25) IS NOT DISTINCT FROM nullif(by_default, '')) FROM python_keys"
 }
 
+# What SQLite answers of the same geometries, from a GeoPackage and as EWKB.
+test_sqlite() {
+    needs 'the bytes of SQLite' 'there is no sqlite3ext.h, of libsqlite3-dev' [ -e /usr/include/sqlite3ext.h ] || return
+    make -s -f bindings/sqlite/Makefile "I_SHAPE_C_DIR=$library" "OUT=$work/sqlite" > "$work/log" 2>&1 || cat "$work/log"
+    MOD_I_SHAPE=$work/sqlite/mod_i_shape.so I_SHAPE_C_DIR=$library PYTHONPATH=bindings/python/src "$python" bindings/sqlite/tests/rows.py 5000 > "$work/rows"
+    ask -c 'CREATE TABLE of_sqlite (wkb bytea, step float8, point bytea, simplified bytea, despiked bytea, canonical bytea, oriented bytea, key bytea, oriented_key bytea,
+        digest bytea, is_clean bool, has_no_spikes bool, is_valid bool, reason text, area_two numeric, winding int8)' -c "\\copy of_sqlite FROM '$work/rows'"
+    prints 'the bytes of SQLite' '5000|5000|5000' ask -c "SELECT count(*),
+        count(*) FILTER (WHERE (simplified, despiked, canonical, oriented, is_clean, has_no_spikes, is_valid, reason, area_two, winding) IS NOT DISTINCT FROM
+            (i_shape_wkb_simplify(wkb, step), i_shape_wkb_despike(wkb, step), i_shape_wkb_canonical(wkb, step), i_shape_wkb_canonical(wkb, step, true),
+             i_shape_wkb_is_clean(wkb, step), i_shape_wkb_has_no_spikes(wkb, step), i_shape_wkb_is_valid(wkb, step),
+             i_shape_wkb_validity_reason(wkb, step), i_shape_wkb_area_two(wkb, step),
+             i_shape_wkb_winding(wkb, point, step))),
+        count(*) FILTER (WHERE (key, oriented_key, digest) IS NOT DISTINCT FROM
+            (i_shape_wkb_key(wkb, step), i_shape_wkb_key(wkb, step, true), i_shape_wkb_digest(wkb, step))) FROM of_sqlite"
+    prints 'the geometries of SQLite' '5000' ask -c "SELECT count(*) FROM of_sqlite
+        WHERE simplified = ST_AsEWKB(i_shape_simplify(ST_GeomFromEWKB(wkb), step)) AND digest IS NOT DISTINCT FROM i_shape_digest(ST_GeomFromEWKB(wkb), step)"
+}
+
 # Each growth of memory in each call, refused; and answers above what a server takes, which this module has lowered to 1000 bytes.
 test_refusals() {
     sed 's/AS .MODULE_PATHNAME./AS '"'${work//\//\\/}\/refusing\/i_shape'"'/; /^\\echo/d' "$here"/i_shape--*.sql > "$work/refusing.sql"
@@ -91,6 +113,7 @@ test_refusals() {
 # A module that finds a processor without SSE4.2 refuses to be loaded.
 test_processor() {
     needs 'a processor without SSE4.2' 'this one is no x86-64' [ "$(uname -m)" = x86_64 ] || return
+    needs 'a processor without SSE4.2' "cargo's library is for each x86-64" [ ! -e "$library/by_cargo" ] || return
     build "$work/old" 'MORE_CPPFLAGS="-D__builtin_cpu_supports(name)=0"' > "$work/log" 2>&1 || cat "$work/log"
     prints 'a processor without SSE4.2' 'ERROR:  0A000' fails ask -v VERBOSITY=sqlstate -c "LOAD '$work/old/i_shape'"
 }
@@ -103,15 +126,16 @@ test_module() {
 
 chmod 755 "$work"
 trap stop_server EXIT
-test_fuzz
 start_server > "$work/log" 2>&1 && build "$work/out" install >> "$work/log" 2>&1 || { cat "$work/log" "$work/data/log" && count 1 'the server' && end_part; }
 export PGHOST=$work/socket PGUSER=postgres PGDATABASE=contrib_regression
 test_regress
 test_module
 test_restore
 test_python_keys
-test_refusals
+test_sqlite
+[ -n "$is_quick" ] || test_refusals
 test_processor
+test_folder
 ask -d template1 -c 'CREATE DATABASE page'
 add 'docs/POSTGIS.md' env PATH="$bin:$PATH" PGDATABASE=page python3 .ci/pages.py docs/POSTGIS.md
 end_part

@@ -1,6 +1,7 @@
 #!/usr/bin/env bash
 # Builds the wheel of the Python package, installs it into an empty virtual environment and runs its tests there, the examples of its docstrings and of
-# docs/PYTHON.md among them. It takes the library of `make c`, or of the folder I_SHAPE_C_DIR, and Debian's Python, or the one that $PYTHON names.
+# docs/PYTHON.md among them. It takes the library of `make c`, or of the folder I_SHAPE_C_DIR, and Debian's Python, or the one that $PYTHON names. With
+# --quick tests that take seconds are skipped.
 . "$(dirname "$0")/part.sh" || exit 1
 
 install_package() {
@@ -9,6 +10,7 @@ install_package() {
 }
 
 run_tests() {
+    [ -n "$is_quick" ] || export LONG_TESTS=1
     "$work/environment/bin/python" bindings/python/tests > "$work/told" 2>&1
     local status=$?
     if [ "$status" = 0 ]; then grep ' is not tested: ' "$work/told"; tail -n 1 "$work/told"; else cat "$work/told"; fi

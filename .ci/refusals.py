@@ -3,7 +3,8 @@
 
 Runs each test with its growth of number N refused, for N = 1, 2, .. up to the first run in which none is. A test prints 'NAME begins' before a call, and behind it
 'NAME done' or 'NAME refused'. growths.txt there lists how many growths a call makes: it passes where it was refused at so many, and done in the last run. Faults are
-a run that fails or leaves a block of memory, a call that is done though a growth was refused in it, or refused though none was, and one that isn't listed once.
+a run that fails or leaves a block of memory, a call that is done though a growth was refused in it, or refused though none was, and one that isn't listed once. A
+call that does without memory prints 'NAME answered' either way, and counts as refused where a growth was refused in it.
 """
 import collections
 import os
@@ -34,11 +35,14 @@ class Run:
         self.done, self.refused, self.faults, self.has_refused = [], [], [], False
         call, within = None, False
         for line in map(str.strip, ran.stdout.splitlines()):
-            what = re.fullmatch(r"(.*) (begins|done|refused)", line)
+            what = re.fullmatch(r"(.*) (begins|done|refused|answered)", line)
             if line == "growth refused":
                 self.has_refused = within = True
             elif what and what[2] == "begins":
                 call, within = what[1], False
+            elif what and what[2] == "answered":
+                (self.refused if within else self.done).append(what[1])
+                call, within = None, False
             elif what:
                 # one that doesn't tell that it begins is alone in its test
                 if (what[2] == "refused") != within and (call == what[1] or what[2] == "refused" or self.has_refused):

@@ -43,6 +43,31 @@ class Case(unittest.TestCase):
         return subprocess.run(words, cwd=folder, env=self.environment, capture_output=True, text=True, check=False, **how)
 
 
+class ProofTest(Case):
+    """What scripts/proof.py prints of a log of rt."""
+
+    LAST = "fn i_shape_c::b: proved\nfn i_shape_c::a: proved\naxioms libc: malloc\nlogic=proved functions=2 sum=1 statements=trusted"
+
+    def printed(self, log, crate="i_shape_c"):
+        write(f"{self.room}/log", log)
+        return self.run_in(TOP, sys.executable, "scripts/proof.py", f"{self.room}/log", crate)
+
+    def test_kept_work(self):
+        """The same bytes from nothing and over kept work, whatever crates were proved before; and they name the crate and sources."""
+        below = "fn i_shape::c: proved\naxioms libc: free\nlogic=proved functions=1 sum=1\n"
+        kept = self.printed(f"so far: 1 of 2 functions\n{self.LAST} incremental=trusted\n").stdout
+        self.assertEqual(self.printed(f"{below}{self.LAST}\n").stdout, kept)
+        lines = kept.splitlines()
+        self.assertEqual([lines[0], *(line.split()[1] for line in lines if line.startswith("sources "))],
+                         ["crate i_shape_c", "i_shape_c", "i_shape", "i_shape_contacts", "i_shape_core", "i_shape_source"])
+        self.assertEqual(lines[-4:], ["fn i_shape_c::a: proved", "fn i_shape_c::b: proved", "axioms libc: malloc",
+                                      "logic=proved functions=2 sum=1 statements=trusted incremental=trusted"])
+
+    def test_another_crate(self):
+        for log in ("", f"{self.LAST}\nfn i_shape::c: proved\nlogic=proved functions=1\n", "fn i_shape_c::a: proved\n"):
+            self.assertEqual((self.printed(log).returncode, self.printed(log).stdout), (1, ""))
+
+
 class PartsTest(Case):
     def test_counts(self):
         for said, status, counts in (
@@ -66,7 +91,7 @@ add right echo 'its tests: 10 passed, 0 failed, 2 skipped'
 for run in 'echo 0 passed, 0 failed' 'echo 1 passed, 1 failed' 'echo 1 passed, 0 failed; exit 1' 'echo 1; exit 0' 'kill -9 $$'; do add wrong sh -c "$run"; done
 has tests no-such-program || has_built tests no-such-script || end_part
 """)
-        ran = self.run_in("/", "bash", f"{self.room}/.ci/a_part.sh", "--if-built")
+        ran = self.run_in("/", "bash", f"{self.room}/.ci/a_part.sh", "--quick")
         self.assertEqual((ran.returncode, ran.stdout.splitlines()[-1]), (1, "a part: 15 passed, 9 failed, 4 skipped"))
 
     def test_runs(self):
@@ -118,13 +143,18 @@ mkdir "$STAND_IN/one" && sleep 0.1 && rmdir "$STAND_IN/one"
 """
     # cargo builds a program that answers as it is told to.
     CARGO = """#!/bin/sh
+[ "$1" != --version ] || { echo 'host: this-machine' && exit; }
 echo cargo >> "$STAND_IN/started"
 [ -e "$STAND_IN/answer" ] || { echo 'error: no rustc' >&2; exit 101; }
 for word; do
-    its=$word/${CARGO_BUILD_TARGET:+$CARGO_BUILD_TARGET/}release
-    [ "$before" != --target-dir ] || { mkdir -p "$its" && cp "$STAND_IN/program" "$its/i_shape_tool"; }
+    case $before in
+    --target) target=$word ;;
+    --target-dir) its=$word ;;
+    esac
     before=$word
 done
+its=$its/${target:-$CARGO_BUILD_TARGET}/program
+mkdir -p "$its" && cp "$STAND_IN/program" "$its/i_shape_tool"
 """
     PROGRAM = """#!/bin/sh
 cat > "$STAND_IN/given"; cat "$STAND_IN/answer"; echo "$1" >&2; exit "$(cat "$STAND_IN/status")"

@@ -1,11 +1,12 @@
 #!/usr/bin/env bash
-# Packs what a release holds into a folder: the C library for each Linux, in an archive and in a wheel, the program for each, the package for JavaScript, the
-# crate for Rust in source, the site, and SHA256SUMS. What isn't built yet is built first; the C library and the program for each processor of their machine. Two runs over one commit give the same bytes:
+# Packs what a release holds into a folder: the C library for each Linux, in an archive and in a wheel, the program for each, the package for JavaScript, the plugin of QGIS, in source
+# the crate for Rust, the C library and the package for Python, the site, and SHA256SUMS. What isn't built yet is built first; the C library and the program for each processor of their machine. Two runs over one commit give the same bytes:
 # names are sorted, and each time is that of the commit, or SOURCE_DATE_EPOCH.
 #
 # usage: dist.sh FOLDER [PART..]
 #
-# A part is linux-x86_64, linux-aarch64, wheel-x86_64, wheel-aarch64, program-x86_64, program-aarch64, javascript, rust or site. Where none is named, all are packed.
+# A part is linux-x86_64, linux-aarch64, wheel-x86_64, wheel-aarch64, program-x86_64, program-aarch64, javascript, qgis, rust, c, python, source or site. Where none
+# is named, all are packed. The last six need no kit.
 set -euo pipefail
 umask 022
 export LC_ALL=C
@@ -13,7 +14,7 @@ unset MAKEFLAGS MFLAGS
 top=$(cd "$(dirname "$0")/.." && pwd)
 folder=${1:?the folder to pack into}
 shift
-[ $# -gt 0 ] || set -- linux-x86_64 linux-aarch64 wheel-x86_64 wheel-aarch64 program-x86_64 program-aarch64 javascript rust site
+[ $# -gt 0 ] || set -- linux-x86_64 linux-aarch64 wheel-x86_64 wheel-aarch64 program-x86_64 program-aarch64 javascript qgis rust c python source site
 version=$("$top/scripts/version.sh")
 SOURCE_DATE_EPOCH=${SOURCE_DATE_EPOCH:-$(git -C "$top" log -1 --format=%ct)}
 export SOURCE_DATE_EPOCH
@@ -35,13 +36,8 @@ build_library() {
     esac
 }
 
-# What the kit said of the proof that a library or program stands on, whose log is $1.
-print_proof() {
-    grep -q '^logic=proved ' "$1" || { echo "dist.sh: there is no verdict in $1" >&2 && exit 1; }
-    grep -E '^fn .*: proved$' "$1" | sort
-    grep -E '^axioms ' "$1"
-    grep -E '^logic=proved ' "$1"
-}
+# What the kit said of the proof of the crate $2, whose log is $1.
+print_proof() { python3 "$top/scripts/proof.py" "$1" "$2"; }
 
 pack_linux() {
     local machine=$1 name=i_shape-$version-linux-$1
@@ -50,13 +46,14 @@ pack_linux() {
     # so that the folder may lie anywhere
     sed 's|@PREFIX@|${pcfiledir}/../..|; s|@INCLUDEDIR@|${prefix}/include|; s|@LIBDIR@|${prefix}/lib|' "$library/i_shape.pc.in" > "$work/$name/lib/pkgconfig/i_shape.pc"
     cp "$top/bindings/c/archive.cmake" "$work/$name/CMakeLists.txt"
+    cp "$top/bindings/c/install.cmake" "$work/$name"
     cp "$top/bindings/c/archive.mk" "$work/$name/Makefile"
     cp -R "$top/bindings/c/check" "$work/$name"
     mkdir "$work/$name/sample"
-    cp -R "$top"/bindings/c/{sample.c,sample.cpp,consumer} "$work/$name/sample"
-    cp "$top/LICENSE" "$work/$name"
+    cp -R "$top"/bindings/c/{sample.c,codes.c,sample.cpp,codes.cpp,consumer} "$top"/examples/{clean,polygons}.c "$work/$name/sample"
+    cp "$top"/{LICENSE,NOTICE} "$work/$name"
     sed "s|@VERSION@|$version|; s|@MACHINE@|$machine|" "$top/bindings/c/archive.md" > "$work/$name/README.md"
-    print_proof "$library/build.log" > "$work/$name/PROOF"
+    print_proof "$library/build.log" i_shape_c > "$work/$name/PROOF"
     [ "$machine" != x86_64 ] || add_faster "$work/$name"
     pack "$name" "$name.tar.gz"
 }
@@ -73,16 +70,16 @@ add_faster() {
     build_default
     mkdir -p "$to"
     cp -P "$default"/libi_shape.so.* "$to"
-    print_proof "$default/build.log" > "$1/PROOF.x86-64-v2"
+    print_proof "$default/build.log" i_shape_c > "$1/PROOF.x86-64-v2"
 }
 
 pack_program() {
     local machine=$1 name=i_shape_tool-$version-linux-$1 kind=x86-64 choice=CPU=x86-64
     [ "$machine" = x86_64 ] || { kind=aarch64 && choice=TARGET=aarch64; }
     make -s -C "$top" install-program "$choice" DESTDIR="$work/$name" PREFIX=
-    cp "$top/LICENSE" "$work/$name"
+    cp "$top"/{LICENSE,NOTICE} "$work/$name"
     sed "s|@VERSION@|$version|; s|@MACHINE@|$machine|" "$top/scripts/program/archive.md" > "$work/$name/README.md"
-    print_proof "$top/crates/i_shape_tool_main/out/$kind/build.log" > "$work/$name/PROOF"
+    print_proof "$top/crates/i_shape_tool_main/out/$kind/build.log" i_shape_tool_main > "$work/$name/PROOF"
     pack "$name" "$name.tar.gz"
 }
 
@@ -98,25 +95,98 @@ pack_javascript() {
     local its=$top/bindings/js
     bash "$its/build.sh"
     mkdir -p "$work/package/out"
-    cp -R "$its"/{package.json,README.md,src} "$top/LICENSE" "$work/package"
-    cp "$its"/out/i_shape{64,32}.wasm "$work/package/out"
+    cp -R "$its"/{package.json,README.md,src} "$top"/{LICENSE,NOTICE} "$work/package"
+    cp "$its/out/i_shape32.wasm" "$work/package/out"
     pack package "i_shape-$version-javascript.tgz"
+}
+
+# The folder of the Rust that the build script of the package $1 leaves of the proved source.
+erased_of() {
+    cargo check --quiet --offline --locked --manifest-path "$top/rust/$1/Cargo.toml" --target-dir "$work/target" --message-format json |
+        sed -nE "/\"build-script-executed\"/s|.*rust/$1#.*\"out_dir\":\"([^\"]*)\".*|\1/erased|p"
+}
+
+# The package $1 in the folder $2, which has its src: that Rust lies in there, and the package is no member of a workspace. It has a lock, and needs no other.
+add_erased() {
+    local its=$top/rust/$1 erased
+    erased=$(erased_of "$1")
+    cp -R "$erased" "$2/src"
+    sed -e "/^include!/{r $erased/mod.rs" -e 'd}' "$its/src/erased.rs" > "$2/src/erased.rs"
+    rm "$2/src/erased/mod.rs"
+    awk 'FNR == NR { told[$1] = $0; next } sub(/[.]workspace = true$/, "") { $0 = told[$0] } /^.build-dependencies/, /^$/ { next }
+        { sub("../../examples", "examples"); print }' "$top/rust/Cargo.toml" "$its/Cargo.toml" > "$2/Cargo.toml"
+    [ "$1" = i_shape ] || sed -n '/^\[profile/,$p' "$top/rust/Cargo.toml" | cat <(echo) - <(printf '\n[workspace]\n') >> "$2/Cargo.toml"
+    (cd "$2" && cargo generate-lockfile --quiet --offline)
 }
 
 # The crate, with the Rust that its build script leaves of the proved source, and so without that script. The example that it shares with C lies in it.
 pack_rust() {
-    local its=$top/rust/i_shape name=i_shape-$version-rust erased
-    erased=$(cargo build --quiet --offline --locked --manifest-path "$its/Cargo.toml" --target-dir "$work/target" --message-format json |
-        sed -nE '/"build-script-executed"/s|.*rust/i_shape#.*"out_dir":"([^"]*)".*|\1/erased|p')
+    local its=$top/rust/i_shape name=i_shape-$version-rust
     mkdir "$work/$name"
     cp -R "$its"/{README.md,examples,src,tests} "$top"/{LICENSE,examples/clean.rs} "$work/$name"
     mv "$work/$name/clean.rs" "$work/$name/examples"
-    cp -R "$erased" "$work/$name/src"
-    sed -e "/^include!/{r $erased/mod.rs" -e 'd}' "$its/src/erased.rs" > "$work/$name/src/erased.rs"
-    rm "$work/$name/src/erased/mod.rs"
-    awk 'FNR == NR { told[$1] = $0; next } sub(/[.]workspace = true$/, "") { $0 = told[$0] } /^.build-dependencies/, /^$/ { next }
-        { sub("../../examples", "examples"); print }' "$top/rust/Cargo.toml" "$its/Cargo.toml" > "$work/$name/Cargo.toml"
-    (cd "$work/$name" && cargo generate-lockfile --quiet --offline)
+    add_erased i_shape "$work/$name"
+    pack "$name" "$name.tar.gz"
+}
+
+# The package of the C library in the folder $1, whose build script is left with naming it. Where C is musl, Rust links programs statically, and a shared library
+# only if it is told not to.
+add_c_library() {
+    mkdir -p "$1/.cargo"
+    cp -R "$top/rust/c_library/src" "$1"
+    sed '/^    \/\/ cuts the contracts/,/^    erase::/d' "$top/rust/c_library/build.rs" > "$1/build.rs"
+    printf '%s\n' "[target.'cfg(target_env = \"musl\")']" 'rustflags = ["-C", "target-feature=-crt-static"]' > "$1/.cargo/config.toml"
+    add_erased c_library "$1"
+}
+
+# The C library in source, for CMake.
+pack_c() {
+    local its=$top/bindings/c name=i_shape-$version-c
+    mkdir -p "$work/$name"/{cmake,include,sample}
+    sed "s|@VERSION@|$version|; s|@SONAME@|$("$top/scripts/version.sh" --soname)|" "$its/source/CMakeLists.txt" > "$work/$name/CMakeLists.txt"
+    cp "$its/source/install.cmake" "$its"/cmake/* "$its/i_shape.pc.in" "$work/$name/cmake"
+    cp "$top"/include/i_shape.{h,hpp} "$work/$name/include"
+    cp -R "$its/check" "$top/LICENSE" "$work/$name"
+    cp -R "$its"/{sample.c,codes.c,sample.cpp,codes.cpp,consumer} "$top"/examples/{clean,polygons}.c "$work/$name/sample"
+    sed "s|@VERSION@|$version|" "$its/source/README.md" > "$work/$name/README.md"
+    add_c_library "$work/$name/rust"
+    pack "$name" "$name.tar.gz"
+}
+
+# As setuptools lays a source distribution out.
+pack_python() {
+    local its=$top/bindings/python name=i_shape-$version
+    mkdir "$work/sdist"
+    cp -R "$its"/{src,README.md,pyproject.toml,setup.py,MANIFEST.in} "$top/LICENSE" "$top/include/i_shape.h" "$work/sdist"
+    find "$work/sdist" -name __pycache__ -prune -exec rm -rf {} +
+    add_c_library "$work/sdist/rust"
+    (cd "$work/sdist" && "${PYTHON:-/usr/bin/python3}" -c 'from setuptools.build_meta import build_sdist; build_sdist("out")' > "$work/log" 2>&1) || { cat "$work/log" >&2 && exit 1; }
+    tar -xzf "$work/sdist/out/$name.tar.gz" -C "$work"
+    pack "$name" "$name.tar.gz"
+}
+
+# The plugin of QGIS, as QGIS installs it from a zip. The wheel isn't in it.
+pack_qgis() {
+    local its=$work/qgis/i_shape_qgis
+    mkdir -p "$its"
+    cp "$top"/bindings/qgis/i_shape_qgis/*.py "$top/LICENSE" "$its"
+    sed "s|@VERSION@|$version|" "$top/bindings/qgis/i_shape_qgis/metadata.txt" > "$its/metadata.txt"
+    "${PYTHON:-/usr/bin/python3}" - "$work/qgis" "$work/packed/i_shape-$version-qgis.zip" << 'PROGRAM'
+import os, pathlib, sys, time, zipfile
+folder, name = map(pathlib.Path, sys.argv[1:])
+time = time.gmtime(int(os.environ["SOURCE_DATE_EPOCH"]))[:6]
+with zipfile.ZipFile(name, "w") as packed:
+    for path in sorted(folder.glob("*/*")):
+        its = zipfile.ZipInfo(str(path.relative_to(folder)), time)
+        its.external_attr = 0o100644 << 16
+        packed.writestr(its, path.read_bytes(), zipfile.ZIP_DEFLATED)
+PROGRAM
+}
+
+# All sources, as a clone has them.
+pack_source() {
+    local name=i_shape-$version-source
+    bash "$top/scripts/source.sh" "$work/$name"
     pack "$name" "$name.tar.gz"
 }
 
@@ -124,6 +194,8 @@ pack_site() {
     local name=i_shape-$version-site
     bash "$top/scripts/site.sh"
     cp -R "$top/docs/out" "$work/$name"
+    # what is in a release is released
+    find "$work/$name" -name 'CHANGELOG*' -type f -exec sed -i '/^\(<p>\)\?Not released yet\.\(<\/p>\)\?$/d' {} +
     pack "$name" "$name.tar.gz"
 }
 
@@ -133,7 +205,11 @@ for part; do
     wheel-x86_64 | wheel-aarch64) pack_wheel "${part#wheel-}" ;;
     program-x86_64 | program-aarch64) pack_program "${part#program-}" ;;
     javascript) pack_javascript ;;
+    qgis) pack_qgis ;;
     rust) pack_rust ;;
+    c) pack_c ;;
+    python) pack_python ;;
+    source) pack_source ;;
     site) pack_site ;;
     *) echo "dist.sh: what is $part?" >&2 && exit 2 ;;
     esac
@@ -141,5 +217,7 @@ done
 mkdir -p "$folder"
 mv "$work"/packed/* "$folder"
 # What was packed into the folder before has its line too.
+python3 "$top/scripts/sbom.py" "$folder" "$version" > "$work/sbom"
+mv "$work/sbom" "$folder/i_shape-$version.spdx.json"
 (cd "$folder" && sha256sum -- i_shape* > "$work/SHA256SUMS")
 mv "$work/SHA256SUMS" "$folder"

@@ -1,0 +1,22 @@
+#!/usr/bin/env bash
+# Lays the source archive of a release into a folder that isn't there: the files of the commit, or of the checkout where there is no git, with the Rust that
+# the crate for Rust takes of the proved source in `erased`, and the commit in COMMIT. Cargo builds it as it does a clone.
+#
+# usage: source.sh FOLDER
+set -euo pipefail
+top=$(cd "$(dirname "$0")/.." && pwd)
+folder=${1:?the folder to lay the sources into}
+mkdir "$folder"
+if git -C "$top" rev-parse HEAD > "$folder/COMMIT" 2> /dev/null; then
+    git -C "$top" archive HEAD | tar -x -C "$folder"
+else
+    echo unknown > "$folder/COMMIT"
+    tar --create --exclude-vcs --exclude={out,target,dist,environment,__pycache__} -C "$top" . | tar -x -C "$folder"
+fi
+work=$(mktemp -d)
+trap 'rm -rf "$work"' EXIT
+cargo check --quiet --offline --locked --manifest-path "$top/rust/i_shape/Cargo.toml" --target-dir "$work/target" --message-format json |
+    sed -nE '/"build-script-executed"/s|.*rust/i_shape#.*"out_dir":"([^"]*)".*|\1/erased|p' > "$work/erased"
+cp -R "$(cat "$work/erased")" "$folder/erased"
+# what is in a release is released
+sed -i '/^Not released yet\.$/,+1d' "$folder/CHANGELOG.md"
