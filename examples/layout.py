@@ -8,9 +8,10 @@ PYTHONPATH names the folder that holds it:
     klayout -b -r layout.py -rd given=IN -rd out=OUT
 
 Rectangles, which KLayout reads as boxes, are polygons too. Paths and texts
-stay as they are, and a polygon that collapses is taken out. With
--rd times=yes it tells how long the call took, and how long KLayout's own
-Polygon.compress(true) does for the same polygons.
+stay as they are. A polygon that collapses is taken out, and a line names
+its cell, its layer and its box in database units. With -rd times=yes, lines
+say how long the call took, and how long KLayout's own Polygon.compress(true)
+does for the same polygons.
 """
 
 from __future__ import annotations
@@ -28,10 +29,19 @@ import i_shape
 _KINDS = pya.Shapes.SPolygons | pya.Shapes.SBoxes
 
 
-class Polygons(NamedTuple):
-    """The polygons of a layout, end to end, and where each stands."""
+class Place(NamedTuple):
+    """A polygon in the layout."""
 
-    places: list[tuple[pya.Shapes, pya.Shape]]
+    cell: str
+    layer: pya.LayerInfo
+    shapes: pya.Shapes
+    shape: pya.Shape
+
+
+class Polygons(NamedTuple):
+    """The polygons of a layout, end to end, and where each is."""
+
+    places: list[Place]
     points: np.ndarray
     offsets: np.ndarray
 
@@ -41,9 +51,9 @@ def find(layout: pya.Layout) -> Polygons:
     places, numbers, offsets = [], array("q"), [0]
     for cell in layout.each_cell():
         for layer in layout.layer_indexes():
-            shapes = cell.shapes(layer)
+            info, shapes = layout.get_info(layer), cell.shapes(layer)
             for shape in shapes.each(_KINDS):
-                places.append((shapes, shape))
+                places.append(Place(cell.name, info, shapes, shape))
                 for point in shape.simple_polygon.each_point():
                     numbers.extend((point.x, point.y))
                 offsets.append(len(numbers) // 2)
@@ -52,22 +62,24 @@ def find(layout: pya.Layout) -> Polygons:
 
 
 def put_back(polygons: Polygons, left: i_shape.Rings) -> None:
-    """Give each polygon the ring that is left of it."""
+    """Give each polygon the ring that is left of it, and say which go."""
     counts, left_counts = np.diff(polygons.offsets), np.diff(left.offsets)
     changed = (left_counts == 0) | (left_counts < counts)
-    for place in np.flatnonzero(changed).tolist():
-        shapes, shape = polygons.places[place]
-        ring = left.points[left.offsets[place]:left.offsets[place + 1]]
+    for number in np.flatnonzero(changed).tolist():
+        place = polygons.places[number]
+        ring = left.points[left.offsets[number]:left.offsets[number + 1]]
         if len(ring):
-            shapes.replace(shape, pya.SimplePolygon(
+            place.shapes.replace(place.shape, pya.SimplePolygon(
                 [pya.Point(x, y) for x, y in ring.tolist()], True))
         else:
-            shapes.erase(shape)
+            print(f"gone: cell {place.cell}, layer {place.layer},"
+                  f" box {place.shape.bbox()}")
+            place.shapes.erase(place.shape)
 
 
 def compress_seconds(polygons: Polygons) -> float:
     """How long KLayout takes for the same polygons."""
-    copies = [shape.polygon for _, shape in polygons.places]
+    copies = [place.shape.polygon for place in polygons.places]
     started = time.perf_counter()
     for polygon in copies:
         polygon.compress(True)

@@ -16,6 +16,7 @@ from __future__ import annotations
 import argparse
 import json
 import sqlite3
+import sys
 
 import numpy as np
 
@@ -46,8 +47,14 @@ def opened(path: str, step: float) -> sqlite3.Connection:
 
 
 def read(path: str) -> io.Features:
-    with open(path) as text:
-        return io.from_geojson(json.load(text))
+    with open(path, encoding="utf-8") as text:
+        try:
+            document = json.load(text)
+        except ValueError as error:  # of another format, as a GeoPackage is
+            raise ValueError(f"{path} is no GeoJSON, into which `ogr2ogr -f"
+                             f" GeoJSON` turns other formats: {error}"
+                             ) from None
+    return io.from_geojson(document)
 
 
 def add(store: sqlite3.Connection, file: str, features: io.Features,
@@ -87,10 +94,13 @@ def main() -> None:
     words.add_argument("--step", type=float, required=True,
                        help="of the grid onto which coordinates are rounded")
     options = words.parse_args()
-    store = opened(options.store, options.step)
-    for file in options.files:
-        new, count = add(store, file, read(file), options.step)
-        print(f"{file}: {new} of {count} polygons are new")
+    try:
+        store = opened(options.store, options.step)
+        for file in options.files:
+            new, count = add(store, file, read(file), options.step)
+            print(f"{file}: {new} of {count} polygons are new")
+    except (OSError, ValueError, sqlite3.Error) as error:
+        sys.exit(f"store.py: {error}")
     store.close()
 
 

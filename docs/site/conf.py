@@ -18,7 +18,7 @@ def read(name):
 number = int(re.search(r"I_SHAPE_VERSION (\w+)", read("include/i_shape.h"))[1], 16)
 project, author, release = "Raspochre", "the authors of Raspochre", f"{number >> 16}.{number >> 8 & 255}.{number & 255}"
 root_doc = "README"
-include_patterns = ["*.md", "*.rst", "docs/*.md", "docs/develop/*.md", "examples/*/README.md", "bench/*/README.md", "bindings/*/README.md"]
+include_patterns = ["*.md", "*.rst", "docs/*.md", "docs/develop/*.md", "examples/*/README.md", "bindings/*/README.md"]
 # Links to folders of the repository become text, and Rattle is coloured as Rust as far as that goes.
 suppress_warnings = ["ref.myst", "misc.highlighting_failure"]
 
