@@ -332,6 +332,8 @@ class WrongTest(Case):
         write(f"{self.room}/.ci/wrong.py", pages.read(f"{TOP}/.ci/wrong.py"))
         for name, function, old, new, _ in EDITS:
             write(f"{self.room}/crates/doubles/wrong/{name}.edit", f"file: src/lib.rt\nrefused: {function}\nold: {old}\nnew: {new}\n")
+        # What passes by the weaker search isn't noted.
+        self.assertEqual(self.run_wrong("--quick", "--only", "lists_its_goals")[0], 0)
         status, said = self.run_wrong()
         for name, *_, what in EDITS:
             self.assertIn(f"wrong doubles/{name}: {what}", said)

@@ -6,8 +6,9 @@ checks kept. An edit passes where the prover leaves a goal of its own function o
 'returns-clause-NAME', say, or the goal NAME itself. A fault of a function that it calls, or a text that cannot be read, is not enough. Rounds go on until each
 edit is judged. The libraries below a crate whose edits are tried are proved first, where they aren't.
 
-The goals that the line 'goals' of an edit lists, those that were open when it was written, are given the answer `search rules` in the copy, where its function
-has none: Rattle's own attempt at such a goal fails three times as slowly, and is made again to print what is open. --whole leaves these answers out.
+With --quick, the goals that the line 'goals' of an edit lists, those that were open when it was written, are given the answer `search rules` in the copy, where
+its function has none. Rattle's own attempt at such a goal fails three times as slowly, and is made again to print what is open. But it proves more: a right body
+may pass by the quick judge, so nothing that passes is noted.
 
 An edit that passed is noted in ~/.cache/raspochre, or below $XDG_CACHE_HOME, by a sum of what it was judged by: the kit, this script, the edit, its crate's line
 in crates.txt, the code, contracts and proofs of its crate, and what the libraries below state. While none of these changes, it passes again without a check, in
@@ -213,8 +214,8 @@ class Notes:
 class Trial:
     """The wrong bodies of one crate, tried in rounds on one copy of it."""
 
-    def __init__(self, crate, edits, writes, is_whole):
-        self.crate, self.left, self.notes, self.writes, self.is_whole, self.passed = crate, edits, Notes(crate), writes, is_whole, []
+    def __init__(self, crate, edits, writes, is_quick):
+        self.crate, self.left, self.notes, self.writes, self.is_quick, self.passed = crate, edits, Notes(crate), writes, is_quick, []
 
     def sort_out(self, is_anew):
         """Judges the edits that can't be tried, and those that are noted unless all are tried anew, and tells which of the others are tried alone."""
@@ -236,7 +237,7 @@ class Trial:
                 known = len(self.passed)
                 for edit in taken:
                     self.look_at(edit, found, len(taken) == 1)
-                self.notes.add(self.passed[known:])
+                self.notes.add([] if self.is_quick else self.passed[known:])
 
     def judge(self, edit, why_not):
         self.left.remove(edit)
@@ -265,7 +266,7 @@ class Trial:
             texts, _ = edit.edited(room)
             if texts and all(self.can_stand_beside(edit, other) for other in taken):
                 taken.append(edit)
-                if not self.is_whole:
+                if self.is_quick:
                     edit.answer(room)
                 for path, text in texts.items():
                     with open(f"{room}/{path}", "w", encoding="utf-8") as out:
@@ -312,7 +313,7 @@ def main():
     parser.add_argument("--lanes", type=int, default=processors, metavar="N", help="try the edits of as many crates at once")
     parser.add_argument("--anew", action="store_true", help="try the edits that are noted too")
     parser.add_argument("--write", action="store_true", help="write the line 'clause' into edits that pass and have none: read it, as it only says what was open")
-    parser.add_argument("--whole", action="store_true", help="try the edits that are noted too, and all without answers to the goals that they list")
+    parser.add_argument("--quick", action="store_true", help="answer the goals that the edits list by a weaker search: what passes may be a right body")
     parser.add_argument("--only", nargs="+", default=[], metavar="WORD", help="try the edits of these crates, and those with one of these words in their names")
     parser.add_argument("--except", nargs="+", default=[], metavar="CRATE", dest="left_out", help="try no edit of these crates")
     asked = parser.parse_args()
@@ -337,7 +338,7 @@ def main():
     trials = []
     libraries = dict.fromkeys(below for crate, its in edits.items() if its for below in crate.below())
     if all(it.build_rlib(["--jobs", str(processors)], anew=False) == 0 for it in libraries):
-        trials = [Trial(crate, its, asked.write, asked.whole).sort_out(asked.anew or asked.whole) for crate, its in edits.items() if its]
+        trials = [Trial(crate, its, asked.write, asked.quick).sort_out(asked.anew) for crate, its in edits.items() if its]
         open_ones = sorted((it for it in trials if it.left), key=lambda it: -len(it.left))
         with ThreadPoolExecutor(asked.lanes) as pool:
             list(pool.map(Trial.run, open_ones))
