@@ -213,11 +213,11 @@ int32_t i_shape_first_contact_of_rings_i32(const i_shape_point_i32 *points, size
  * contours and in points; first and second are 0 where the kind doesn't use them. */
 typedef struct { size_t kind, first, second; } i_shape_fault;
 enum {
-    I_SHAPE_VALID = 0,        /* no fault */
-    I_SHAPE_COLLAPSED = 1,    /* first: a contour with fewer than three points, or with all points equal */
-    I_SHAPE_CONTACT = 2,      /* first, second: the points from which two edges in contact lead, the lesser index first */
-    I_SHAPE_HOLE_OUTSIDE = 3, /* first: a hole with a vertex about which the outer contour doesn't wind */
-    I_SHAPE_HOLE_WITHIN = 4   /* first: a hole with a vertex about which another hole winds; second: that hole */
+    I_SHAPE_VALID = 0,          /* no fault */
+    I_SHAPE_TOO_FEW_POINTS = 1, /* first: a contour with fewer than three points, or with all points equal */
+    I_SHAPE_CONTACT = 2,        /* first, second: the points from which two edges in contact lead, the lesser index first */
+    I_SHAPE_HOLE_OUTSIDE = 3,   /* first: a hole with a vertex about which the outer contour doesn't wind */
+    I_SHAPE_HOLE_WITHIN = 4     /* first: a hole with a vertex about which another hole winds; second: that hole */
 };
 
 /* The first fault of each polygon, into out. It returns 0. I_SHAPE_BAD_OFFSETS: contours[] or shapes[] are wrong as

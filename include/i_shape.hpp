@@ -180,11 +180,11 @@ struct Contact {
 
 /* The kinds of a polygon's fault, in the order in which it is tested for them. */
 enum class FaultKind : std::size_t {
-    valid = I_SHAPE_VALID,               /* no fault */
-    collapsed = I_SHAPE_COLLAPSED,       /* first: a contour with fewer than three points, or with all points equal */
-    contact = I_SHAPE_CONTACT,           /* first, second: the points from which two edges in contact lead */
-    hole_outside = I_SHAPE_HOLE_OUTSIDE, /* first: a hole with a vertex about which the outer contour doesn't wind */
-    hole_within = I_SHAPE_HOLE_WITHIN    /* first: a hole with a vertex about which another hole winds; second: that hole */
+    valid = I_SHAPE_VALID,                   /* no fault */
+    too_few_points = I_SHAPE_TOO_FEW_POINTS, /* first: a contour with fewer than three points, or with all points equal */
+    contact = I_SHAPE_CONTACT,               /* first, second: the points from which two edges in contact lead */
+    hole_outside = I_SHAPE_HOLE_OUTSIDE,     /* first: a hole with a vertex about which the outer contour doesn't wind */
+    hole_within = I_SHAPE_HOLE_WITHIN        /* first: a hole with a vertex about which another hole winds; second: that hole */
 };
 
 /* The first fault of a polygon. The places are those in the contours and points of all polygons, 0 where the kind has

@@ -463,7 +463,7 @@ private:
             return faults[polygon].kind == kind && faults[polygon].first == first && faults[polygon].second == second;
         };
         check(faults.size() == 6 && is_fault(0, FaultKind::valid, 0, 0) && is_fault(1, FaultKind::valid, 0, 0), "validity", "valid polygons");
-        check(is_fault(2, FaultKind::collapsed, 3, 0) && is_fault(3, FaultKind::contact, 15, 17), "validity", "a contour that collapses, and a contact");
+        check(is_fault(2, FaultKind::too_few_points, 3, 0) && is_fault(3, FaultKind::contact, 15, 17), "validity", "a contour that collapses, and a contact");
         check(is_fault(4, FaultKind::hole_outside, 8, 0) && is_fault(5, FaultKind::hole_within, 11, 10), "validity", "holes outside and within");
         check(i_shape::validity(all.points, std::array<std::uint32_t, 1>{7}, std::array<std::uint16_t, 1>{0}).empty(), "validity", "no polygon, by other offsets");
     }

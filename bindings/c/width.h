@@ -460,7 +460,7 @@ static void AT(test_validity)(void) {
                              {0, 0}, {20, 0}, {20, 20}, {0, 20}, {2, 2}, {16, 2}, {2, 16}, {4, 4}, {6, 4}, {4, 6},           /* a hole in a hole */
                              {0, LEAST_UNSAFE}};
     const size_t contours[15] = {1, 5, 9, 12, 15, 19, 22, 26, 29, 33, 36, 39, 43, 46, 49}, shapes[7] = {1, 4, 6, 8, 8, 11, 14};
-    const i_shape_fault faults[6] = {{I_SHAPE_VALID, 0, 0}, {I_SHAPE_COLLAPSED, 5, 0}, {I_SHAPE_CONTACT, 24, 26},
+    const i_shape_fault faults[6] = {{I_SHAPE_VALID, 0, 0}, {I_SHAPE_TOO_FEW_POINTS, 5, 0}, {I_SHAPE_CONTACT, 24, 26},
                                      {I_SHAPE_VALID, 0, 0}, {I_SHAPE_HOLE_OUTSIDE, 10, 0}, {I_SHAPE_HOLE_WITHIN, 13, 12}};
     const size_t back[3] = {1, 9, 5}, outside[2] = {1, 51}, shapes_back[3] = {1, 4, 3}, shapes_outside[2] = {1, 15}, low[2] = {0, 5}, high[2] = {46, 50}, one[2] = {0, 1};
     i_shape_fault out[7];

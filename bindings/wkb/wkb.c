@@ -116,7 +116,7 @@ void put_reason(const Invalidity *found, Grid grid, char text[REASON_SIZE]) {
         put_point_text(found->first.point, grid, at + strlen(at));
     }
     switch (found->kind) {
-    case I_SHAPE_COLLAPSED: snprintf(words, room, "it has fewer than three points, or only equal ones%s", at); return;
+    case I_SHAPE_TOO_FEW_POINTS: snprintf(words, room, "it has fewer than three points, or only equal ones%s", at); return;
     case I_SHAPE_CONTACT: put_contact(&found->first, &found->second, grid, words, room); return;
     case I_SHAPE_HOLE_OUTSIDE: snprintf(words, room, "it is a hole outside the outer ring%s", at); return;
     case I_SHAPE_HOLE_WITHIN: snprintf(words, room, "it is a hole within ring %zu, another hole%s", found->second.ring, at); return;

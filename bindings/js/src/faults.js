@@ -3,7 +3,7 @@
 // Of each kind, at the place of its code in include/i_shape.h, what the two places are that the library writes with it.
 const KINDS = [
     { kind: "valid", places: [] },
-    { kind: "collapsed", places: ["ring"] },
+    { kind: "tooFewPoints", places: ["ring"] },
     { kind: "contact", places: ["first", "second"] },
     { kind: "holeOutside", places: ["ring"] },
     { kind: "holeWithin", places: ["ring", "other"] },

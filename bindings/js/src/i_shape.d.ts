@@ -129,12 +129,12 @@ export interface Contact {
 }
 
 /**
- * The first fault of a polygon, or `"valid"`. Rings and points are named by their places in all offsets and points that the call is given. A ring has collapsed
- * if it has fewer than three points, or only equal ones. Faults are looked for in this order.
+ * The first fault of a polygon, or `"valid"`. Rings and points are named by their places in all offsets and points that the call is given. A ring has
+ * too few points if it has fewer than three, or only equal ones. Faults are looked for in this order.
  */
 export type Validity =
     | { kind: "valid" }
-    | { kind: "collapsed"; ring: number }
+    | { kind: "tooFewPoints"; ring: number }
     /** Two edges are in contact, each by the place of the point from which it leads. */
     | ({ kind: "contact" } & Contact)
     /** A vertex of the hole `ring` is outside the outer ring. */
@@ -203,7 +203,7 @@ export interface IShape {
     firstContactOfRings(points: Points, offsets: Offsets): Contact | undefined;
 
     /**
-     * Of each polygon whether it is valid, or its first fault. It is valid if no ring has collapsed, no two edges are in contact, each vertex of each hole is
+     * Of each polygon whether it is valid, or its first fault. It is valid if each ring has enough points, no two edges are in contact, each vertex of each hole is
      * inside the outer ring, and none is inside another hole. Rings that touch at one point are in contact, unlike by the rules of JSTS and PostGIS. Different
      * polygons aren't compared.
      * @throws {OffsetsError} tested before whether points are safe

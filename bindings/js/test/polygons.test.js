@@ -48,11 +48,11 @@ const ASIDE = [6, 1, 6, 2, 7, 1];
 const FAULTS = [
     { rings: [], fault: { kind: "valid" } },
     { rings: [WIDE, ASIDE, LEFT_PART], fault: { kind: "valid" } },
-    { rings: [[0, 0, 4, 4, 4, 0, 0, 4], [1, 1, 1, 1, 1, 1]], fault: { kind: "collapsed", ring: 1 } },
+    { rings: [[0, 0, 4, 4, 4, 0, 0, 4], [1, 1, 1, 1, 1, 1]], fault: { kind: "tooFewPoints", ring: 1 } },
     { rings: [SQUARE, ASIDE, [1, 1, 2, 1, 2, 4]], fault: { kind: "contact", first: 2, second: 8 } },
     { rings: [SQUARE, ASIDE], fault: { kind: "holeOutside", ring: 1 } },
     { rings: [WIDE, ASIDE, INNER, LEFT_PART], fault: { kind: "holeWithin", ring: 2, other: 3 } },
-    { rings: [[]], fault: { kind: "collapsed", ring: 0 } },
+    { rings: [[]], fault: { kind: "tooFewPoints", ring: 0 } },
 ];
 
 /** The polygons of FAULTS end to end, and their faults by the places in all of them. */

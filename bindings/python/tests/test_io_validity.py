@@ -26,7 +26,7 @@ FAULTS = [
      " (0.5, 1)"),
     # 0.9 and 1.1 are 4 steps
     (f"POLYGON ({SQUARE}, (1.1 1.1, 0.9 1.1, 1.1 0.9, 1.1 1.1))",
-     (Fault.COLLAPSED, 0, 1, None, None, ((1.1, 1.1),)),
+     (Fault.TOO_FEW_POINTS, 0, 1, None, None, ((1.1, 1.1),)),
      "polygon 0, ring 1: it has fewer than three points, or only equal ones,"
      " at (1.1, 1.1)"),
     # the first polygon with a fault
@@ -38,7 +38,7 @@ FAULTS = [
      (Fault.HOLE_WITHIN, 0, 1, 2, None, ((1.0, 0.5),)),
      "polygon 0, ring 1: it is a hole within ring 2, another hole, at"
      " (1, 0.5)"),
-    ("POLYGON (EMPTY)", (Fault.COLLAPSED, 0, 0, None, None, ()),
+    ("POLYGON (EMPTY)", (Fault.TOO_FEW_POINTS, 0, 0, None, None, ()),
      "polygon 0, ring 0: it has fewer than three points, or only equal ones"),
 ]
 GIVEN = io.from_wkt([text for text, _, _ in FAULTS])

@@ -20,9 +20,9 @@ WITHIN = [[2, 2], [3, 2], [2, 3], [2, 2]]
 CROSSED = [[0.1, 0], [4, 4], [4, 0], [0, 4], [0.1, 0]]
 # By FID the polygons of a feature, and the kind, the polygon and the ring of its first fault.
 TESTED = {
-    2: ([[SQUARE], [THIN]], ["collapsed", 1, 0]),
+    2: ([[SQUARE], [THIN]], ["too few points", 1, 0]),
     3: ([[SQUARE, TRIANGLE]], None),
-    5: ([[SQUARE, []]], ["collapsed", 0, 1]),
+    5: ([[SQUARE, []]], ["too few points", 0, 1]),
     7: ([[CROSSED]], ["contact", 0, 0]),
     8: ([[SQUARE], [SQUARE, [[1, 1], [8, 2], [1, 2], [1, 1]]]], ["contact", 1, 0]),
     9: ([[SQUARE, [[9, 9], [10, 9], [9, 10], [9, 9]]]], ["hole outside", 0, 1]),

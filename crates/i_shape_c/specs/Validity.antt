@@ -5,7 +5,7 @@ use Rattle.std.specs.List.{AllZip, range_with_len}
 use Rattle.i_shape.specs.Point.{Point}
 use Rattle.i_shape_contacts.specs.Validity.{IsFirstFault}
 use Rattle.i_shape_contacts.specs.declared.validity.Validity.{Validity}
-use Rattle.i_shape_contacts.specs.declared.validity.Validity.TheVariants.{Valid, Collapsed, Contact, HoleOutside, HoleWithin}
+use Rattle.i_shape_contacts.specs.declared.validity.Validity.TheVariants.{Valid, TooFewPoints, Contact, HoleOutside, HoleWithin}
 use Rattle.i_shape_c.specs.Batch.{offset, AreSafeContours}
 use Rattle.i_shape_c.specs.Codes.{Refuses}
 use Rattle.i_shape_c.specs.Polygons.{PolygonArrays, PartsPolygons}
@@ -34,7 +34,7 @@ fault kind first second = record { kind = kind; first = first; second = second }
 -- the fault of a polygon, at the places in all contours and points, of which its own begin with these
 abbrev pub placed : ℕ → ℕ → Validity → Fault
 placed contour point Valid = fault 0 0 0
-placed contour point (Collapsed k) = fault 1 (contour + k) 0
+placed contour point (TooFewPoints k) = fault 1 (contour + k) 0
 placed contour point (Contact it) = fault 2 (point + it.first) (point + it.second)
 placed contour point (HoleOutside k) = fault 3 (contour + k) 0
 placed contour point (HoleWithin k j) = fault 4 (contour + k) (contour + j)

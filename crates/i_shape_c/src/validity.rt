@@ -26,7 +26,7 @@ pub struct Fault {
 const VALID: usize = 0;
 
 /// The kind of a contour, `first`, that has fewer than three points, or all of whose points are equal.
-const COLLAPSED: usize = 1;
+const TOO_FEW_POINTS: usize = 1;
 
 /// The kind of two edges in contact: `first` and `second` are the points from which they lead.
 const CONTACT: usize = 2;
@@ -162,8 +162,8 @@ fn fault_of<P: CPoint>(
             first: 0,
             second: 0,
         },
-        Validity::Collapsed { contour: ring } => Fault {
-            kind: COLLAPSED,
+        Validity::TooFewPoints { contour: ring } => Fault {
+            kind: TOO_FEW_POINTS,
             first: contour + ring,
             second: 0,
         },

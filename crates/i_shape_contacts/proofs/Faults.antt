@@ -11,7 +11,7 @@ use Rattle.i_shape_core.proofs.plane.PointLists.{read-length}
 use Rattle.i_shape_contacts.specs.Courses.{DividesPoints}
 use Rattle.i_shape_contacts.specs.Validity.{IsDegenerate, IsDegenerateRing, IsLeast, IsFirstFault, IsValidPolygon}
 use Rattle.i_shape_contacts.specs.declared.validity.Validity.{Validity}
-use Rattle.i_shape_contacts.specs.declared.validity.Validity.TheVariants.{Valid, Collapsed, Contact, HoleOutside, HoleWithin}
+use Rattle.i_shape_contacts.specs.declared.validity.Validity.TheVariants.{Valid, TooFewPoints, Contact, HoleOutside, HoleWithin}
 
 -- a part of what is made of each item
 slice_range-map : {X Y : Type 0} (f : X → Y) (xs : List X) (a b : ℕ) → slice_range (map f xs) a b ≡ map f (slice_range xs a b)
@@ -56,7 +56,7 @@ module _ (offsets : List ℕ) (c : List Point) where
   -- no fault is the first exactly where the polygon is valid
   pub valid_by_fault : (v : Validity) → IsFirstFault offsets c v → (v ≡ Valid) ↔ IsValidPolygon offsets c
   valid_by_fault Valid f = (λ e. f, λ w. refl)
-  valid_by_fault (Collapsed k) f = (λ e. absurd (cc), λ w. absurd (w.no_degenerate k f.is))
+  valid_by_fault (TooFewPoints k) f = (λ e. absurd (cc), λ w. absurd (w.no_degenerate k f.is))
   valid_by_fault (Contact it) f = (λ e. absurd (cc), λ w. absurd (w.no_contact.none it.first it.second f.first.first.contact))
   valid_by_fault (HoleOutside k) f = (λ e. absurd (cc), λ w. absurd (w.no_outside k f.first.is))
   valid_by_fault (HoleWithin k j) f = (λ e. absurd (cc), λ w. absurd (w.no_within k j f.first.first_other.is))

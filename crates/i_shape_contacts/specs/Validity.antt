@@ -7,7 +7,7 @@ use Rattle.i_shape_core.specs.Rings.{nth_ring}
 use Rattle.i_shape_core.specs.Winding.{winding}
 use Rattle.i_shape_contacts.specs.Contacts.{AreAllEqual, IsRingContact, NoContact, IsFirstContact}
 use Rattle.i_shape_contacts.specs.declared.validity.Validity.{Validity}
-use Rattle.i_shape_contacts.specs.declared.validity.Validity.TheVariants.{Valid, Collapsed, Contact, HoleOutside, HoleWithin}
+use Rattle.i_shape_contacts.specs.declared.validity.Validity.TheVariants.{Valid, TooFewPoints, Contact, HoleOutside, HoleWithin}
 
 -- the ring is degenerate: it has fewer than three points, or all its points are equal
 abbrev pub IsDegenerate : List Point → Type 0
@@ -99,7 +99,7 @@ pub record IsWithinFault (offsets : List ℕ) (c : List Point) (k j : ℕ) : Typ
 -- none
 abbrev pub IsFirstFault : List ℕ → List Point → Validity → Type 0
 IsFirstFault offsets c Valid = IsValidPolygon offsets c
-IsFirstFault offsets c (Collapsed k) = IsLeast (IsDegenerateRing offsets c) k
+IsFirstFault offsets c (TooFewPoints k) = IsLeast (IsDegenerateRing offsets c) k
 IsFirstFault offsets c (Contact it) = IsContactFault offsets c it.first it.second
 IsFirstFault offsets c (HoleOutside k) = IsOutsideFault offsets c k
 IsFirstFault offsets c (HoleWithin k j) = IsWithinFault offsets c k j

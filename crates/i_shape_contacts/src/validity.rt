@@ -24,7 +24,7 @@ pub enum Validity {
     /// Nothing is wrong.
     Valid,
     /// The contour at this index has fewer than three points, or all its points are equal.
-    Collapsed { contour: usize },
+    TooFewPoints { contour: usize },
     /// These two edges, of one contour or of two, are in contact.
     Contact(Contact),
     /// The hole at this index has a vertex about which the winding number of the outer contour is 0.
@@ -59,7 +59,7 @@ pub fn validity_of<P: ContourPoint>(alloc: Global, points: &[P], offsets: &[usiz
     ensures fault { IsFirstFault offsets.now (read P.Coordinate.value P.points points.now) result }
 {
     if let Some(contour) = first_degenerate(points, offsets) {
-        return Validity::Collapsed { contour };
+        return Validity::TooFewPoints { contour };
     }
     if let Some(contact) = first_contact_of_rings(alloc, points, offsets) {
         return Validity::Contact(contact);

@@ -262,17 +262,17 @@ const POLYGONS: [(&str, &str, Validity); 17] = [
         "0 4 8 12",
         Validity::Valid,
     ),
-    ("", "0 0", Validity::Collapsed { contour: 0 }),
-    ("0 0 8 0", "0 2", Validity::Collapsed { contour: 0 }),
+    ("", "0 0", Validity::TooFewPoints { contour: 0 }),
+    ("0 0 8 0", "0 2", Validity::TooFewPoints { contour: 0 }),
     (
         "0 0 8 0 8 8 0 8 2 2 2 2 2 2",
         "0 4 7",
-        Validity::Collapsed { contour: 1 },
+        Validity::TooFewPoints { contour: 1 },
     ),
     (
         "0 0 8 8 8 0 0 8 2 2 2 4",
         "0 4 6",
-        Validity::Collapsed { contour: 1 },
+        Validity::TooFewPoints { contour: 1 },
     ),
     (
         "0 0 8 8 8 0 0 8 9 9 9 10 10 10",

@@ -312,7 +312,7 @@ pub(crate) fn validity_of<I: IntNumber>(
     check_safe(points).map_err(|error| error.behind(before))?;
     Ok(match edges::validity_of(Global, points, offsets) {
         edges::Validity::Valid => Validity::Valid,
-        edges::Validity::Collapsed { contour } => Validity::Collapsed { contour },
+        edges::Validity::TooFewPoints { contour } => Validity::TooFewPoints { contour },
         edges::Validity::Contact(found) => Validity::Contact(contact_behind(before, found)),
         edges::Validity::HoleOutside { contour } => Validity::HoleOutside { contour },
         edges::Validity::HoleWithin { contour, other } => Validity::HoleWithin { contour, other },

@@ -124,7 +124,7 @@ class Fault(enum.IntEnum):
     ----------
     VALID
         Nothing is wrong.
-    COLLAPSED
+    TOO_FEW_POINTS
         A ring has fewer than three points, or all its points are equal.
     CONTACT
         Two edges are in contact, as of :func:`first_contact_of_rings`.
@@ -136,7 +136,7 @@ class Fault(enum.IntEnum):
     """
 
     VALID = 0
-    COLLAPSED = 1
+    TOO_FEW_POINTS = 1
     CONTACT = 2
     HOLE_OUTSIDE = 3
     HOLE_WITHIN = 4
@@ -173,7 +173,7 @@ def polygon_validity(points: npt.NDArray[Int], ring_offsets: npt.ArrayLike,
         :class:`Fault`, 0 where the polygon is valid. ``first`` and
         ``second`` are, of dtype intp,
 
-        - for COLLAPSED and HOLE_OUTSIDE: the index of the ring, and 0;
+        - for TOO_FEW_POINTS and HOLE_OUTSIDE: the index of the ring, and 0;
         - for CONTACT: the indices in ``points`` of the points from which
           the two edges lead;
         - for HOLE_WITHIN: the indices of that ring and of the other one;
@@ -242,7 +242,7 @@ def _test_polygons(points: Array, rings: Array, polygons: Array,
 def _count_rings(faults: Array, before: int) -> None:
     """Count the rings of faults from ``before`` on."""
     kinds = faults["kind"]
-    name_a_ring = ((kinds == Fault.COLLAPSED) | (kinds == Fault.HOLE_OUTSIDE)
+    name_a_ring = ((kinds == Fault.TOO_FEW_POINTS) | (kinds == Fault.HOLE_OUTSIDE)
                    | (kinds == Fault.HOLE_WITHIN))
     faults["first"][name_a_ring] += before
     faults["second"][kinds == Fault.HOLE_WITHIN] += before

@@ -59,7 +59,7 @@ pub enum Validity {
     /// Nothing is wrong.
     Valid,
     /// A contour has fewer than three points, or all its points are equal.
-    Collapsed {
+    TooFewPoints {
         /// The index of that contour.
         contour: usize,
     },
@@ -90,7 +90,7 @@ impl Validity {
     pub(crate) fn behind(self, count: usize) -> Self {
         let shifted = |contour| count + contour;
         match self {
-            Validity::Collapsed { contour } => Validity::Collapsed {
+            Validity::TooFewPoints { contour } => Validity::TooFewPoints {
                 contour: shifted(contour),
             },
             Validity::HoleOutside { contour } => Validity::HoleOutside {

@@ -261,15 +261,15 @@ const FAULTS: [(&[&Written], Validity); 21] = [
     // the outer contour may be clockwise
     (&[&[[0, 4], [4, 4], [4, 0], [0, 0]], &HOLE], Validity::Valid),
     // empty, short, all equal; the first such contour, also behind a contact or a hole outside
-    (&[&[]], Validity::Collapsed { contour: 0 }),
-    (&[&[[1, 2], [3, 4]]], Validity::Collapsed { contour: 0 }),
+    (&[&[]], Validity::TooFewPoints { contour: 0 }),
+    (&[&[[1, 2], [3, 4]]], Validity::TooFewPoints { contour: 0 }),
     (
         &[&SQUARE, &[[1, 2], [1, 2], [1, 2]], &[]],
-        Validity::Collapsed { contour: 1 },
+        Validity::TooFewPoints { contour: 1 },
     ),
     (
         &[&BOW_TIE, &ASIDE, &[[9, 9]]],
-        Validity::Collapsed { contour: 2 },
+        Validity::TooFewPoints { contour: 2 },
     ),
     // no area, but a contour that turns back is in contact with itself
     (
@@ -377,7 +377,7 @@ fn faults_by_hand<I: Number>() {
 fn behind(fault: Validity, contours: usize, points: usize) -> Validity {
     match fault {
         Validity::Valid => fault,
-        Validity::Collapsed { contour } => Validity::Collapsed {
+        Validity::TooFewPoints { contour } => Validity::TooFewPoints {
             contour: contours + contour,
         },
         Validity::Contact(Contact { first, second }) => {

@@ -63,7 +63,7 @@ class FeatureFault:
             return (f"edge {first} from {places[0]} meets edge {second}{ring}"
                     f" from {places[1]}")
         at = f", at {places[0]}" if places else ""
-        if self.kind == Fault.COLLAPSED:
+        if self.kind == Fault.TOO_FEW_POINTS:
             return f"it has fewer than three points, or only equal ones{at}"
         if self.kind == Fault.HOLE_OUTSIDE:
             return f"it is a hole outside the outer ring{at}"

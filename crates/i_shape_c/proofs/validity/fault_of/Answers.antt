@@ -4,7 +4,7 @@ use Rattle.i_shape_core.proofs.plane.PointLists.{read-length}
 use Rattle.i_shape_core.proofs.lists.Rings.{rises_to}
 use Rattle.i_shape.specs.IntPoint.{point_of}
 use Rattle.i_shape_contacts.specs.Courses.{DividesPoints}
-use Rattle.i_shape_contacts.specs.declared.validity.Validity.TheVariants.{Valid, Collapsed, Contact, HoleOutside, HoleWithin}
+use Rattle.i_shape_contacts.specs.declared.validity.Validity.TheVariants.{Valid, TooFewPoints, Contact, HoleOutside, HoleWithin}
 use Rattle.i_shape_c.specs.Batch.{offset}
 use Rattle.i_shape_c.specs.Cleaned.{AreSafe}
 use Rattle.i_shape_c.specs.Validity.{points_between}
@@ -60,8 +60,8 @@ returns-in-Valid-clause-is g c =
     let part : own_points ≡ points_between (map at points) offsets = copied_points g.P.Coordinate.IntNumber.width value g.P.ContourPoint.point given (g.P.ContourPoint.points given) (g.P.ContourPoint.each given) ∙ ap (map at) c.part-given.ensures.part ∙ map_part at points (offset offsets 0) (offset offsets (length offsets - 1)) in
     fault_placed (map at points) own_points offsets _ c.args.contour Valid c.rebase.ensures.written part c.in-Valid.ensures.fault
 
-pub returns-in-Collapsed-clause-is : goal.returns-in-Collapsed-clause-is
-returns-in-Collapsed-clause-is g c =
+pub returns-in-TooFewPoints-clause-is : goal.returns-in-TooFewPoints-clause-is
+returns-in-TooFewPoints-clause-is g c =
     let value = g.P.Coordinate.IntNumber.value in
     let at = λ (p : g.row.P.Denot). point_of value (g.P.ContourPoint.point p) in
     let offsets = c.args.offsets.now in
@@ -69,7 +69,7 @@ returns-in-Collapsed-clause-is g c =
     let given = c.part-given.result.now in
     let own_points = contour_of value (g.P.ContourPoint.points given) in
     let part : own_points ≡ points_between (map at points) offsets = copied_points g.P.Coordinate.IntNumber.width value g.P.ContourPoint.point given (g.P.ContourPoint.points given) (g.P.ContourPoint.each given) ∙ ap (map at) c.part-given.ensures.part ∙ map_part at points (offset offsets 0) (offset offsets (length offsets - 1)) in
-    fault_placed (map at points) own_points offsets _ c.args.contour (Collapsed c.in-Collapsed.ring) c.rebase.ensures.written part c.in-Collapsed.ensures.fault
+    fault_placed (map at points) own_points offsets _ c.args.contour (TooFewPoints c.in-TooFewPoints.ring) c.rebase.ensures.written part c.in-TooFewPoints.ensures.fault
 
 pub returns-in-Contact-clause-is : goal.returns-in-Contact-clause-is
 returns-in-Contact-clause-is g c =

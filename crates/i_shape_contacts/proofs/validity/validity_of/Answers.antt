@@ -1,12 +1,12 @@
 use Rattle.i_shape_core.specs.IntPoint.{contour_of}
-use Rattle.i_shape_contacts.specs.declared.validity.Validity.TheVariants.{Valid, Collapsed, Contact, HoleWithin}
+use Rattle.i_shape_contacts.specs.declared.validity.Validity.TheVariants.{Valid, TooFewPoints, Contact, HoleWithin}
 use Rattle.i_shape_contacts.proofs.Faults.{valid_by_fault}
 use Rattle.i_shape_contacts.proofs.validity.validity_of.Goals as goal
 
 pub returns-in-Some-clause-valid : goal.returns-in-Some-clause-valid
 returns-in-Some-clause-valid g c =
     let list = contour_of g.P.Coordinate.IntNumber.value (g.P.ContourPoint.points c.args.points.now) in
-    valid_by_fault c.args.offsets.now list (Collapsed c.in-Some.contour) c.in-Some.ensures
+    valid_by_fault c.args.offsets.now list (TooFewPoints c.in-Some.contour) c.in-Some.ensures
 
 pub returns-in-Some-first_contact_of_rings-clause-valid : goal.returns-in-Some-first_contact_of_rings-clause-valid
 returns-in-Some-first_contact_of_rings-clause-valid g c =
