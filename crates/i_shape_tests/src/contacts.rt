@@ -135,46 +135,38 @@ fn many_points_are_tried_as_all_pairs_are(rt: HostRuntime) -> Result<(), Fail> {
     Ok(())
 }
 
-/// The first contact of contours at the corners of the safe range, from `least` to `most`, beside which lie `low` and
-/// `high`.
-fn corners<I: IntNumber>(
-    row: &Row<'_, impl Abort>,
-    [least, low, high, most]: [I; 4],
-) -> Result<(), Fail> {
-    let rows = [
-        (
-            [[least, least], [most, least], [most, most], [least, most]],
-            None,
-        ),
-        (
-            [[least, least], [most, most], [most, least], [least, most]],
-            Some([0, 2]),
-        ),
-        (
-            [[least, least], [most, most], [high, most], [least, low]],
-            None,
-        ),
-        (
-            [[least, least], [most, most], [high, most], [low, low]],
-            Some([0, 2]),
-        ),
-        (
-            [[least, least], [most, high], [most, most], [low, low]],
-            None,
-        ),
-        (
-            [[least, high], [least, least], [most, least], [least, low]],
-            Some([0, 2]),
-        ),
-        (
-            [[least, least], [most, least], [most, most], [low, least]],
-            Some([0, 2]),
-        ),
-    ];
-    for (list, wanted) in &rows {
+/// Contours at the corners of the safe range, and their first contact. Of a coordinate 0 is the least number, 3 the
+/// greatest, and 1 and 2 are the numbers beside them.
+const CORNERS: [([[u8; 2]; 4], Option<[usize; 2]>); 7] = [
+    ([[0, 0], [3, 0], [3, 3], [0, 3]], None),
+    ([[0, 0], [3, 3], [3, 0], [0, 3]], Some([0, 2])),
+    ([[0, 0], [3, 3], [2, 3], [0, 1]], None),
+    ([[0, 0], [3, 3], [2, 3], [1, 1]], Some([0, 2])),
+    ([[0, 0], [3, 2], [3, 3], [1, 1]], None),
+    ([[0, 2], [0, 0], [3, 0], [0, 1]], Some([0, 2])),
+    ([[0, 0], [3, 0], [3, 3], [1, 0]], Some([0, 2])),
+];
+
+/// One of four numbers.
+fn number<I: IntNumber>([least, low, high, most]: [I; 4], place: u8) -> I {
+    match place {
+        0 => least,
+        1 => low,
+        2 => high,
+        _ => most,
+    }
+}
+
+/// The first contacts of the contours at the corners of the safe range, of which these are the numbers.
+fn corners<I: IntNumber>(row: &Row<'_, impl Abort>, numbers: [I; 4]) -> Result<(), Fail> {
+    for (places, wanted) in CORNERS {
+        let mut list = Vec::new(row.alloc);
+        for [x, y] in places {
+            list.push([number(numbers, x), number(numbers, y)])?;
+        }
         let given = contour::<I>(row, list.as_slice())?;
         let found = pair(first_contact(row.alloc, given.as_slice()));
-        row.equal(found, *wanted, "at the corners");
+        row.equal(found, wanted, "at the corners");
     }
     Ok(())
 }
