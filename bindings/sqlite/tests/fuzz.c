@@ -34,11 +34,12 @@ static void set_memory(void) {
     must(sqlite3_config(SQLITE_CONFIG_MALLOC, &tried) == SQLITE_OK && sqlite3_config(SQLITE_CONFIG_LOOKASIDE, 0, 0) == SQLITE_OK, "no memory of its own");
 }
 
-enum { SIMPLIFY, DESPIKE, CANONICAL, KEY, DIGEST, IS_CLEAN, REASON, AREA_TWO, WINDING, SIDES, CALLS };
+enum { SIMPLIFY, DESPIKE, CANONICAL, KEY, DIGEST, IS_CLEAN, HAS_NO_SPIKES, IS_VALID, REASON, AREA_TWO, WINDING, SIDES, CALLS };
 static const char *const words[CALLS] = {
     "SELECT i_shape_simplify(?1, ?2)",    "SELECT i_shape_despike(?1, ?2)",  "SELECT i_shape_canonical(?1, ?2, ?3)",
     "SELECT i_shape_key(?1, ?2, ?3)",     "SELECT i_shape_digest(?1, ?2, ?3)", "SELECT i_shape_is_clean(?1, ?2)",
-    "SELECT i_shape_validity_reason(?1, ?2)", "SELECT i_shape_area_two(?1, ?2)", "SELECT i_shape_winding(?1, ?4, ?2)",
+    "SELECT i_shape_has_no_spikes(?1, ?2)", "SELECT i_shape_is_valid(?1, ?2)", "SELECT i_shape_validity_reason(?1, ?2)",
+    "SELECT i_shape_area_two(?1, ?2)",    "SELECT i_shape_winding(?1, ?4, ?2)",
     "SELECT ST_MinX(?1), ST_MaxX(?1), ST_MinY(?1), ST_MaxY(?1), ST_IsEmpty(?1)"};
 static sqlite3 *database;
 static sqlite3_stmt *calls[CALLS];
@@ -169,6 +170,12 @@ static void check_left(Block given, Block left, int call) {
     free(key.at);
 }
 
+/* A blob that is taken is valid where there is no reason why not. */
+static void check_validity(Block given) {
+    must(ask(IS_VALID, given) == SQLITE_ROW && ask(REASON, given) == SQLITE_ROW, sqlite3_errmsg(database));
+    must(sqlite3_column_int(calls[IS_VALID], 0) == (sqlite3_column_type(calls[REASON], 0) == SQLITE_NULL), "the verdict isn't that of the reason");
+}
+
 /* It tells whether the blob is taken. */
 static bool check_bytes(void) {
     Block given = copy_of(bytes, length);
@@ -177,11 +184,13 @@ static bool check_bytes(void) {
     for (int call = AREA_TWO; call < CALLS; call++) ask(call, given);
     bool is_taken = ask(SIMPLIFY, given) == SQLITE_ROW;
     /* An area may have more than 64 bits. */
-    for (int call = DESPIKE; call <= IS_CLEAN; call++) must((ask(call, given) == SQLITE_ROW) == is_taken, "one call takes what another one refuses");
+    for (int call = DESPIKE; call < AREA_TWO; call++) must((ask(call, given) == SQLITE_ROW) == is_taken, "one call takes what another one refuses");
+    if (is_taken) check_validity(given);
     for (int call = SIMPLIFY; is_taken && call <= CANONICAL; call++) {
         Block left = answer(call, given);
         if (left.size > 0) check_left(given, left, call);
-        must(call == DESPIKE || left.size == 0 || (ask(IS_CLEAN, left) == SQLITE_ROW && sqlite3_column_int(calls[IS_CLEAN], 0)), "what is left isn't clean");
+        int test = call == DESPIKE ? HAS_NO_SPIKES : IS_CLEAN;
+        must(left.size == 0 || (ask(test, left) == SQLITE_ROW && sqlite3_column_int(calls[test], 0)), "what is left isn't clean");
         free(left.at);
     }
     for (int call = 0; call < CALLS; call++) sqlite3_reset(calls[call]);
