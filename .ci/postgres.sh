@@ -1,41 +1,10 @@
 #!/usr/bin/env bash
-# Builds the extension of PostgreSQL over the library of `make c`, and tests it in a server of its own: a copy of the installed one, whose data, socket and
-# extensions lie in the folder of this run, and which runs as nobody where root runs this. With --quick no growth is refused.
-. "$(dirname "$0")/part.sh" || exit 1
-config=${PG_CONFIG:-/usr/lib/postgresql/15/bin/pg_config}
+# Builds the extension of PostgreSQL over the library of `make c`, and tests it in a server of its own. With --quick no growth is refused.
+. "$(dirname "$0")/part.sh" && . .ci/server.sh || exit 1
 library=$PWD/bindings/c/out
 here=bindings/postgres
-needs postgres 'there is no server of PostgreSQL 15 with its headers' [ -e "$("$config" --includedir-server 2> /dev/null)/postgres.h" ] || end_part
-needs postgres 'there is no PostGIS for PostgreSQL 15' [ -e "$("$config" --sharedir)/extension/postgis.control" ] || end_part
+has_postgres postgres || end_part
 has_c_library postgres || end_part
-
-# Runs what follows as whom the server runs as, which may not be root.
-as_server() { if [ "$(id -u)" = 0 ]; then setpriv --reuid=nobody --regid=nogroup --clear-groups "$@"; else "$@"; fi; }
-
-stop_server() {
-    [ ! -e "$work/data/postmaster.pid" ] || as_server "$bin/pg_ctl" -D "$work/data" -m immediate stop > /dev/null 2>&1
-    rm -rf "$work"
-}
-
-# The trees of a server find each other wherever they lie, so a copy writes nothing into that which is installed.
-start_server() {
-    local own=$work/own name
-    for name in bindir libdir sharedir includedir-server; do
-        mkdir -p "$own/$(realpath -m --relative-to=/usr "$("$config" "--$name")")"
-    done
-    cp -a /usr/lib/postgresql/15 "$own/lib/postgresql/" && cp -a /usr/share/postgresql/15 "$own/share/postgresql/" && cp -a /usr/include/postgresql "$own/include/" || return
-    bin=$own/lib/postgresql/15/bin
-    mkdir "$work/data" "$work/socket" && { [ "$(id -u)" != 0 ] || chown nobody "$work/data" "$work/socket"; } &&
-        as_server "$bin/initdb" -D "$work/data" -A trust -U postgres --locale=C.UTF-8 --no-sync || return
-    printf '%s\n' "listen_addresses = ''" "unix_socket_directories = '$work/socket'" 'fsync = off' 'jit = off' >> "$work/data/postgresql.conf"
-    as_server "$bin/pg_ctl" -w -D "$work/data" -l "$work/data/log" start
-}
-
-# The extension, built in the folder $1 with the words from $2 on.
-build() {
-    mkdir -p "$1"
-    make -s -C "$1" -f "$PWD/$here/Makefile" "PG_CONFIG=$bin/pg_config" "I_SHAPE_C_DIR=$library" "${@:2}"
-}
 
 # `make postgres` and `make install-postgres` over the library in another folder, as that of a release, build none.
 test_folder() {
@@ -53,7 +22,7 @@ ask() { psql -XAtq -v ON_ERROR_STOP=1 "$@" 2>&1; }
 
 test_regress() {
     local name
-    build "$work/out" installcheck > "$work/told" 2>&1 || cat "$work/out/regression.diffs" "$work/told"
+    build_postgres "$work/out" installcheck > "$work/told" 2>&1 || cat "$work/out/regression.diffs" "$work/told"
     for name in $(sed -n 's/^REGRESS = //p' "$here/Makefile" | grep . || echo none); do
         check "pg_regress, $name" grep -qE "^test $name +\.\.\. ok" "$work/told"
     done
@@ -103,7 +72,7 @@ test_sqlite() {
 # Each growth of memory in each call, refused; and answers above what a server takes, which this module has lowered to 1000 bytes.
 test_refusals() {
     sed 's/AS .MODULE_PATHNAME./AS '"'${work//\//\\/}\/refusing\/i_shape'"'/; /^\\echo/d' "$here"/i_shape--*.sql > "$work/refusing.sql"
-    mkdir -p "$work/refusing/tests" && build "$work/refusing" MORE_OBJS=tests/refuse.o MORE_CPPFLAGS=-DMOST_BYTES=1000 > "$work/log" 2>&1 || cat "$work/log"
+    mkdir -p "$work/refusing/tests" && build_postgres "$work/refusing" MORE_OBJS=tests/refuse.o MORE_CPPFLAGS=-DMOST_BYTES=1000 > "$work/log" 2>&1 || cat "$work/log"
     ask -c 'CREATE DATABASE refusing' -d template1
     ask -d refusing -c 'SET client_min_messages = error' -c 'CREATE EXTENSION postgis' -f "$work/refusing.sql"
     ask -d refusing -v "module=$work/refusing/i_shape" < "$here/tests/refuse.sql" > "$work/printed"
@@ -114,7 +83,7 @@ test_refusals() {
 test_processor() {
     needs 'a processor without SSE4.2' 'this one is no x86-64' [ "$(uname -m)" = x86_64 ] || return
     needs 'a processor without SSE4.2' "cargo's library is for each x86-64" [ ! -e "$library/by_cargo" ] || return
-    build "$work/old" 'MORE_CPPFLAGS="-D__builtin_cpu_supports(name)=0"' > "$work/log" 2>&1 || cat "$work/log"
+    build_postgres "$work/old" 'MORE_CPPFLAGS="-D__builtin_cpu_supports(name)=0"' > "$work/log" 2>&1 || cat "$work/log"
     prints 'a processor without SSE4.2' 'ERROR:  0A000' fails ask -v VERBOSITY=sqlstate -c "LOAD '$work/old/i_shape'"
 }
 
@@ -124,10 +93,8 @@ test_module() {
     prints 'the version' "$(sed -n '/^## /{s/^## //p;q}' CHANGELOG.md)" ask -c 'SELECT i_shape_version()'
 }
 
-chmod 755 "$work"
-trap stop_server EXIT
-start_server > "$work/log" 2>&1 && build "$work/out" install >> "$work/log" 2>&1 || { cat "$work/log" "$work/data/log" && count 1 'the server' && end_part; }
-export PGHOST=$work/socket PGUSER=postgres PGDATABASE=contrib_regression
+start_server || end_part
+export PGDATABASE=contrib_regression
 test_regress
 test_module
 test_restore

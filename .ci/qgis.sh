@@ -1,7 +1,7 @@
 #!/usr/bin/env bash
 # Packs the plugin of QGIS and the wheel of the Python package, installs both into folders of their own, and tests the algorithms by qgis_process beside the
-# command, on GeoPackages and a shapefile.
-. "$(dirname "$0")/part.sh" || exit 1
+# command, on GeoPackages and a shapefile; and, where they are there, what SQLite and PostGIS make of one of these layers.
+. "$(dirname "$0")/part.sh" && . .ci/server.sh || exit 1
 library=${I_SHAPE_C_DIR:-$PWD/bindings/c/out}
 version=$(scripts/version.sh)
 # The copy that the gate tests has no commits.
@@ -23,6 +23,16 @@ run_qgis() {
     HOME=$work/home XDG_RUNTIME_DIR=$work PYTHONPATH=$work/site PATH=/usr/bin:$PATH "$@"
 }
 
+# The extension of SQLite and a server with that of PostgreSQL, by the variables from which the tests find them.
+start_databases() {
+    needs 'SQLite and PostGIS beside QGIS' 'there is no libi_shape.a' [ -e "$library/libi_shape.a" ] || return
+    if needs 'SQLite beside QGIS' 'there is no sqlite3ext.h, of libsqlite3-dev' [ -e /usr/include/sqlite3ext.h ]; then
+        check 'the extension of SQLite' make -s -f bindings/sqlite/Makefile "I_SHAPE_C_DIR=$library" "OUT=$work/sqlite"
+        export MOD_I_SHAPE=$work/sqlite/mod_i_shape.so
+    fi
+    has_postgres 'PostGIS beside QGIS' && start_server
+}
+
 run_tests() {
     run_qgis "$python" bindings/python/tests/__main__.py bindings/qgis/tests > "$work/told" 2>&1
     local status=$?
@@ -36,5 +46,6 @@ install_plugin > "$work/log" 2>&1 || { cat "$work/log" && count 1 'the plugin' &
 mkdir "$work/home"
 run_qgis "$QGIS_PROCESS" plugins enable i_shape_qgis > "$work/log" 2>&1 || cat "$work/log"
 check 'the dialog' run_qgis "$python" bindings/qgis/tests/dialog.py
+start_databases
 add 'the algorithms' run_tests
 end_part

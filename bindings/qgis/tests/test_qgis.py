@@ -1,7 +1,9 @@
-"""The algorithms by qgis_process, beside the command, on GeoPackages and a shapefile. QGIS_PROCESS names the program, and ogr2ogr makes the files."""
+"""The algorithms by qgis_process, beside the command, on GeoPackages and a shapefile. QGIS_PROCESS names the program, and ogr2ogr makes the files. Where
+MOD_I_SHAPE names the extension of SQLite, and PGHOST a server with that of PostgreSQL, their calls are beside the command too."""
 import json
 import os
 import random
+import re
 import sqlite3
 import struct
 import subprocess
@@ -10,7 +12,8 @@ import tempfile
 import unittest
 from pathlib import Path
 
-CALLS = ("simplify", "despike", "canonical", "dedup")
+CLEANED = ("simplify", "despike", "canonical")
+CALLS = (*CLEANED, "dedup")
 BOXES = (0, 32, 48, 48, 64)
 SPIKE = [[0, 0], [4, 0], [4, 4], [4, 9], [4, 4], [0, 0]]
 THIN = [[0, 0], [0.1, 0], [0.1, 0.1], [0, 0]]
@@ -45,6 +48,47 @@ def random_features(count):
     its = [feature(3 * place + 2, "MultiPolygon", [[ring(numbers) for _ in range(numbers.randrange(1, 3))] for _ in range(numbers.randrange(1, 3))])
            for place in range(count)]
     return [*its, *(dict(one, id=one["id"] + 10000) for one in its[:count // 4])]
+
+
+def near(numbers, points):
+    """A ring of points in hundredths, each beside the grid by less than half of one."""
+    its = [[400000 + x / 100 + numbers.uniform(-0.004, 0.004), 5800000 + y / 100 + numbers.uniform(-0.004, 0.004)] for x, y in points]
+    return its + its[:1]
+
+
+def parcel(numbers):
+    """A ring on few places, or a square, some with a spike, and holes in it, across it, outside it, in one another or of no size."""
+    if numbers.randrange(3) == 0:
+        return [near(numbers, [(numbers.randrange(6), numbers.randrange(6)) for _ in range(numbers.randrange(3, 12))])]
+    spike = numbers.choice(([], [(40, 60), (40, 40)]))
+    anywhere = [(numbers.randrange(1, 45), numbers.randrange(1, 45), numbers.randrange(12)) for _ in range(2)]
+    holes = numbers.choice(([], [(9, 9, 9)], [(2, 2, 25), (4, 8, 9)], anywhere))
+    return [near(numbers, [(0, 0), (20, 0), (40, 0), (40, 40), *spike, (0, 40)]),
+            *(near(numbers, [(x, y), (x, y + size), (x + size, y + size)]) for x, y, size in holes)]
+
+
+def parcels(count):
+    """Polygons and MultiPolygons, and the first quarter of them once more."""
+    numbers = random.Random(73)
+    its = [feature(3 * place + 2, *(("Polygon", parcel(numbers)) if place % 2 else ("MultiPolygon", [parcel(numbers) for _ in range(numbers.randrange(1, 4))])))
+           for place in range(count)]
+    return [*its, *(dict(one, id=one["id"] + 10000) for one in its[:count // 4])]
+
+
+def in_sql(reason):
+    """A reason as SQL returns it: polygons, rings and edges count from 1, and points are those of the grid with the step 0.01."""
+    counted = re.sub(r"(polygon|ring|edge) (\d+)", lambda its: f"{its[1]} {int(its[2]) + 1}", reason)
+    return re.sub(r"(?<=[( ])\d+\.\d+(?=[,)])", lambda its: f"{round(float(its[0]) * 100) / 100:.15g}", counted)
+
+
+def bare(blob):
+    """The WKB of a GeoPackage's blob."""
+    return blob and blob[8 + BOXES[blob[3] >> 1 & 7]:]
+
+
+def promoted(wkb):
+    """What QGIS makes of a WKB in a layer of Polygons and MultiPolygons."""
+    return struct.pack("<BII", 1, 6, wkb[5] > 0) + (wkb if wkb[5] else b"") if wkb[1] == 3 else wkb
 
 
 def points_of(wkb):
@@ -84,17 +128,17 @@ class QgisTest(unittest.TestCase):
         self.done("ogr2ogr", self.work / name, self.work / "given.geojson", "-preserve_fid", "-nln", "parcels", "-nlt", kind, "-a_srs", "EPSG:25833")
         return self.work / name
 
-    def command(self, call, given, name, *words):
+    def command(self, call, given, name, *words, step="0.5"):
         out = self.work / name
-        self.done(sys.executable, "-m", "i_shape", call, given, out, "--step", "0.5", *words)
+        self.done(sys.executable, "-m", "i_shape", call, given, out, "--step", step, *words)
         return out
 
     def ask_qgis(self, call, given, out, *words):
         return ask(os.environ["QGIS_PROCESS"], "run", f"i_shape:{call}", "--", f"INPUT={given}", f"OUTPUT={out}", *words)
 
-    def qgis(self, call, given, name, *words):
+    def qgis(self, call, given, name, *words, step="0.5"):
         out = self.work / name
-        status, told = self.ask_qgis(call, given, out, "STEP=0.5", *words)
+        status, told = self.ask_qgis(call, given, out, f"STEP={step}", *words)
         self.assertEqual(status, 0, told)
         self.assertTrue(out.exists(), told)
         return out
@@ -105,7 +149,7 @@ class QgisTest(unittest.TestCase):
         (table, system), = store.execute("""SELECT table_name, organization || ':' || organization_coordsys_id FROM gpkg_geometry_columns
             JOIN gpkg_spatial_ref_sys USING (srs_id)""")
         its = store.execute(f'SELECT fid, {fields}, geom FROM "{table}" ORDER BY fid').fetchall()
-        rows = [(*row, blob and blob[8 + BOXES[blob[3] >> 1 & 7]:]) for *row, blob in its]
+        rows = [(*row, bare(blob)) for *row, blob in its]
         store.close()
         return system, rows
 
@@ -114,15 +158,59 @@ class QgisTest(unittest.TestCase):
         self.assertEqual(self.rows(self.qgis(call, given, f"qgis_{call}.gpkg", *choices)), expected)
         return expected[1]
 
+    def faults(self, given, step):
+        """The faults that the command writes of a layer."""
+        status, told = ask(sys.executable, "-m", "i_shape", "check", given, "--step", step, "--to", self.work / "faults.geojson")
+        self.assertEqual(status, 1, told)
+        return written_faults(self.work / "faults.geojson"), told
+
+    def are_as_by_command(self, given, rows):
+        """The FID, the WKB of each call, the verdict and the reason of each feature are those that the command has."""
+        left = [self.rows(self.command(call, given, f"{call}.gpkg", "--collapsed", "empty", step="0.01"))[1] for call in CLEANED]
+        faults = {fid: in_sql(reason) for fid, (reason, _) in self.faults(given, "0.01")[0].items()}
+        expected = [(its[0][0], *(wkb for *_, wkb in its), its[0][0] not in faults, faults.get(its[0][0])) for its in zip(*left)]
+        self.assertEqual({row[4] for row in expected}, {True, False})
+        self.assertEqual(len(rows), len(expected))
+        for row, wanted in zip(rows, expected):
+            self.assertEqual(row, wanted)
+
     def test_geopackage(self):
-        """Each call gives the FIDs, attributes, bytes and reference system that the command gives."""
-        given = self.package(random_features(400))
+        """Each call gives the FIDs, attributes, bytes, reference system and faults that the command gives, but that QGIS makes each Polygon a MultiPolygon."""
+        given = self.package(parcels(400))
         before = self.rows(given)[1]
         for call in CALLS:
             with self.subTest(call=call):
                 words = () if call == "dedup" else ("--collapsed", "empty")
-                left = self.same(call, given, words, ["COLLAPSED=empty"] * bool(words))
+                system, left = self.rows(self.command(call, given, f"{call}.gpkg", *words, step="0.01"))
                 self.assertNotEqual(left, before)
+                its = self.qgis(call, given, f"qgis_{call}.gpkg", *["COLLAPSED=empty"] * bool(words), step="0.01")
+                self.assertEqual(self.rows(its), (system, [(fid, name, promoted(wkb)) for fid, name, wkb in left]))
+        rows = self.rows(self.qgis("validity", given, "faults.gpkg", step="0.01"), "reason")[1]
+        self.assertEqual({fid: (reason, points_of(wkb)) for fid, reason, wkb in rows}, self.faults(given, "0.01")[0])
+
+    @unittest.skipUnless(os.environ.get("MOD_I_SHAPE"), "there is no extension of SQLite")
+    def test_sqlite(self):
+        """The same layer by a SELECT."""
+        given = self.package(parcels(400))
+        store = sqlite3.connect(given)
+        store.enable_load_extension(True)
+        store.load_extension(os.environ["MOD_I_SHAPE"])
+        calls = ", ".join(f"i_shape_{call}(geom, 0.01)" for call in (*CLEANED, "is_valid", "validity_reason"))
+        rows = store.execute(f"SELECT fid, {calls} FROM parcels ORDER BY fid").fetchall()
+        store.close()
+        self.are_as_by_command(given, [(fid, *map(bare, left), verdict, reason) for fid, *left, verdict, reason in rows])
+
+    @unittest.skipUnless(os.environ.get("PGHOST"), "there is no server of PostgreSQL")
+    def test_postgis(self):
+        """The same layer in a table of PostGIS."""
+        given = self.package(parcels(400))
+        (self.work / "rows").write_text("".join(f"{fid}\t{wkb.hex()}\n" for fid, _, wkb in self.rows(given)[1]))
+        calls = ", ".join(f"encode(ST_AsBinary(i_shape_{call}(geom, 0.01), 'NDR'), 'hex')" for call in CLEANED)
+        told = self.done("psql", "-XAtq", "-v", "ON_ERROR_STOP=1", "-c", "SET client_min_messages = error", "-c", "CREATE EXTENSION i_shape CASCADE",
+                         "-c", "CREATE TABLE parcels (fid int, geom geometry)", "-c", f"\\copy parcels FROM '{self.work / 'rows'}'", "-c",
+                         f"SELECT fid, {calls}, i_shape_is_valid(geom, 0.01), i_shape_validity_reason(geom, 0.01) FROM parcels ORDER BY fid")
+        rows = [row.split("|") for row in told.splitlines()]
+        self.are_as_by_command(given, [(int(fid), *map(bytes.fromhex, left), verdict == "t", reason or None) for fid, *left, verdict, reason in rows])
 
     def test_oriented(self):
         turned = [[[0, 0], [4, 0], [4, 4], [0, 0]]], [[[0, 0], [4, 4], [4, 0], [0, 0]]]
@@ -177,7 +265,7 @@ class QgisTest(unittest.TestCase):
     def test_validity(self):
         """One feature for each that the command prints, with the reason and points that it prints and writes."""
         given = self.package([feature(fid, "MultiPolygon", its) for fid, (its, _) in TESTED.items()])
-        out, beside = self.work / "out.gpkg", self.work / "faults.geojson"
+        out = self.work / "out.gpkg"
         status, told = self.ask_qgis("validity", given, out, "STEP=0.5")
         self.assertEqual(status, 0, told)
         self.assertIn("6 of 7 features invalid", told)
@@ -185,9 +273,8 @@ class QgisTest(unittest.TestCase):
         system, rows = self.rows(out, "kind, polygon, ring, reason")
         self.assertEqual(system, "EPSG:25833")
         self.assertEqual({fid: its for fid, *its, _, _ in rows}, {fid: fault for fid, (_, fault) in TESTED.items() if fault})
-        status, told = ask(sys.executable, "-m", "i_shape", "check", given, "--step", "0.5", "--to", beside)
-        self.assertEqual(status, 1, told)
-        self.assertEqual({fid: (reason, points_of(wkb)) for fid, *_, reason, wkb in rows}, written_faults(beside))
+        faults, told = self.faults(given, "0.5")
+        self.assertEqual({fid: (reason, points_of(wkb)) for fid, *_, reason, wkb in rows}, faults)
         self.assertEqual([f"layer 'parcels', fid {fid}: {reason}" for fid, *_, reason, _ in rows], told.splitlines()[:-1])
 
     def test_validity_of_others(self):
