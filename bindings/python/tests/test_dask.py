@@ -1,4 +1,7 @@
-"""Rings that two worker processes of Dask clean in parts."""
+"""Rings that two worker processes of Dask clean in parts.
+
+DASK_SCHEDULER is the address of a scheduler of two workers; without it they
+are started here."""
 
 import os
 import random
@@ -42,11 +45,14 @@ class Workers(unittest.TestCase):
         from distributed import Client, LocalCluster
         sys.path.insert(0, str(EXAMPLES))
         cls.addClassCleanup(sys.path.remove, str(EXAMPLES))
-        folder = cls.entered(tempfile.TemporaryDirectory())
-        cluster = cls.entered(LocalCluster(
-            n_workers=2, threads_per_worker=1, dashboard_address=None,
-            local_directory=folder))
+        cluster = os.environ.get("DASK_SCHEDULER")
+        if not cluster:
+            folder = cls.entered(tempfile.TemporaryDirectory())
+            cluster = cls.entered(LocalCluster(
+                n_workers=2, threads_per_worker=1, dashboard_address=None,
+                local_directory=folder))
         cls.client = cls.entered(Client(cluster))
+        cls.client.wait_for_workers(2, timeout=60)
 
     @classmethod
     def entered(cls, manager):
