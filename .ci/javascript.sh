@@ -1,12 +1,13 @@
 #!/usr/bin/env bash
 # Builds the WebAssembly module by cargo and runs the tests of the package for JavaScript and of examples/page by Node: beside the native library, where there is a C
 # compiler, and in browsers. It takes Node from 20.6 on: Debian 12's own is older, and one from NodeSource or nodejs.org serves. Without --quick the tests of C run
-# as a module too.
+# as a module too; with it no browser, no bundler and no tsc does.
 . "$(dirname "$0")/part.sh" || exit 1
 package=bindings/js
 
 # Node counts what it has run. A group of tests that is skipped counts as one.
 test_by_node() {
+    [ -z "$is_quick" ] || export QUICK_TESTS=1
     timeout 1200 node --test --test-reporter=tap $package/test/*.test.js examples/page/test/*.test.js > "$work/told" 2>&1
     local status=$?
     [ "$status" = 0 ] || grep -A 25 '^ *not ok ' "$work/told" | head -n 200
@@ -26,5 +27,5 @@ done
 [ -z "$is_quick" ] && has 'the tests of C as a module' clang wasm-ld &&
     check 'the tests of C as a module' sh $package/test/c/build.sh "$work/c_tests.wasm" && export I_SHAPE_C_TESTS=$work/c_tests.wasm
 add 'the tests by Node' test_by_node
-has 'the types' tsc && check 'the types' tsc --noEmit --strict --target es2022 --lib es2022,dom --module node16 --moduleResolution node16 $package/test/types.ts
+[ -z "$is_quick" ] && has 'the types' tsc && check 'the types' tsc --noEmit --strict --target es2022 --lib es2022,dom --module node16 --moduleResolution node16 $package/test/types.ts
 end_part

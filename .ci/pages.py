@@ -1,7 +1,7 @@
 #!/usr/bin/env python3
 """Checks what the pages show: README.md, CHANGELOG.md, docs/*.md, docs/develop/*.md and the READMEs of examples.
 
-usage: .ci/pages.py [PAGE..]
+usage: .ci/pages.py [--quick] [PAGE..]
 
 - a block `rust`: each of its items stands in one source of the crates, of the crate for Rust or of the examples, word for word but for clauses, attributes and
   doc lines that the page leaves out; and what the block imports is imported there;
@@ -12,7 +12,8 @@ usage: .ci/pages.py [PAGE..]
 - docs/develop/README.md has an item for each part of the gate, and names each edit of must-fail/ and no edit that isn't there;
 - the version in CHANGELOG.md, the archive, the packages for Python and JavaScript, the extension of PostgreSQL and the crate for Rust is that of the header.
 
-A block `console` names what has to be there, as in `console library python`, and is skipped where it isn't; what is skipped for one reason counts as one.
+A block `console` names what has to be there, as in `console library python`, and is skipped where it isn't, and one that is named `long` with --quick. What is skipped
+for one reason counts as one.
 """
 import functools
 import glob
@@ -33,6 +34,7 @@ JAVASCRIPT = ["bindings/js/*.js", "examples/*.mjs"]
 # What shows that something is there, and what is said where it isn't.
 NEEDED = {
     **{name: (f"{name} --version", f"there is no {name}") for name in ("rt", "parallel", "pkg-config")},
+    "long": ("true", "it takes seconds, and `make gate` runs it"),
     # what the three libraries have kept of their proofs, or the C library that was built from it, is newer than they are
     "proof": ("""rt version && test -d crates/i_shape/out/rlib && test -z "$(find crates/i_shape_core crates/i_shape_source crates/i_shape \\
         -name out -prune -o \\( -name '*.rt' -o -name '*.antt' \\) \\
@@ -236,7 +238,11 @@ def tests_of(name):
 
 
 def main():
-    tests = [test for name in map(os.path.abspath, sys.argv[1:]) for test in tests_of(name)]
+    names = sys.argv[1:]
+    if names[:1] == ["--quick"]:
+        NEEDED["long"] = ("false", NEEDED["long"][1])
+        del names[0]
+    tests = [test for name in map(os.path.abspath, names) for test in tests_of(name)]
     if not tests:
         tests = [test for name in files(PAGES) for test in tests_of(name)] + [("the version", [], fault_of_version), ("the edits", [], fault_of_edits),
                                                                              ("the parts", [], fault_of_gate)]

@@ -26,8 +26,8 @@ TOP = os.path.dirname(os.path.dirname(os.path.realpath(__file__)))
 COUNTS = re.compile(r"^(?:[a-z. ]+: |test result: .*\. )?(\d+) passed[,;] (\d+) failed(?:, (\d+) skipped$|;.*$|$)", re.MULTILINE)
 LEFT_OUT = shutil.ignore_patterns(".git", "out", "target", "dist", "environment", "__pycache__")
 # The parts of the tests, in the order in which they start, two at a time: the longest first, and the pages, which show what others build, last.
-TESTS = (".ci/cargo.sh --quick", ".ci/c_library.sh --quick", ".ci/python_package.sh --quick", ".ci/postgres.sh --quick", ".ci/sqlite.sh --quick",
-         ".ci/javascript.sh --quick", ".ci/scaling.sh", ".ci/pictures.sh", "python3 .ci/pages.py")
+TESTS = (".ci/javascript.sh --quick", ".ci/cargo.sh --quick", ".ci/c_library.sh --quick", ".ci/python_package.sh --quick", ".ci/postgres.sh --quick",
+         ".ci/sqlite.sh --quick", ".ci/scaling.sh", ".ci/pictures.sh", "python3 .ci/pages.py --quick")
 # The parts of the gate, before and after the proofs. Those after them rest on the C library, and run in two lanes once it has been tested.
 BEFORE_PROOFS = ("python3 .ci/test_ci.py", "scripts/widths.sh --check")
 C_LIBRARY = ".ci/c_library.sh"

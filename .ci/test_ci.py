@@ -255,10 +255,10 @@ FAULTS = (
 
 
 class PagesTest(Case):
-    def run_pages(self, text):
+    def run_pages(self, text, *words):
         shutil.copy(f"{TOP}/README.md", self.room)
         write(f"{self.room}/page.md", text)
-        ran = self.run_in(TOP, sys.executable, f"{TOP}/.ci/pages.py", f"{self.room}/page.md")
+        ran = self.run_in(TOP, sys.executable, f"{TOP}/.ci/pages.py", *words, f"{self.room}/page.md")
         return ran.returncode, ran.stdout.splitlines()[-1]
 
     def test_pages(self):
@@ -266,6 +266,12 @@ class PagesTest(Case):
         for text in FAULTS:
             status, last = self.run_pages(text)
             self.assertEqual((status, last.split(", ")[1]), (1, "1 failed"), text)
+
+    def test_long(self):
+        """A block that takes seconds, and fails, runs without --quick alone."""
+        block = "```console long\n$ false\n```\n"
+        self.assertEqual(self.run_pages(block), (1, "pages: 1 passed, 1 failed"))
+        self.assertEqual(self.run_pages(block, "--quick"), (0, "pages: 1 passed, 0 failed, 1 skipped"))
 
 
 DOUBLES = """#![tactic(auto)]

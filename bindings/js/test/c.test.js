@@ -3,8 +3,8 @@ import assert from "node:assert/strict";
 import { readFileSync } from "node:fs";
 import path from "node:path";
 import { test } from "node:test";
-import { Browser, hasChromium } from "./support/chromium.js";
-import { hasFirefox, readInFirefox } from "./support/firefox.js";
+import { Browser, noChromium } from "./support/chromium.js";
+import { noFirefox, readInFirefox } from "./support/firefox.js";
 
 const MODULE = process.env.I_SHAPE_C_TESTS;
 const NO_MODULE = !MODULE && "there is no module of the tests of C";
@@ -24,7 +24,7 @@ function check({ status, printed }) {
 
 test("the tests of C", { skip: NO_MODULE }, async () => check(await run(readFileSync(MODULE))));
 
-test("the tests of C, in Chromium", { skip: NO_MODULE || (!hasChromium && "there is no chromium") }, async () => {
+test("the tests of C, in Chromium", { skip: NO_MODULE || noChromium }, async () => {
     const browser = await Browser.open();
     try {
         const bytes = readFileSync(MODULE).toString("base64");
@@ -34,7 +34,7 @@ test("the tests of C, in Chromium", { skip: NO_MODULE || (!hasChromium && "there
     }
 });
 
-test("the tests of C, in Firefox", { skip: NO_MODULE || (!hasFirefox && "there is no firefox-esr") }, async () => {
+test("the tests of C, in Firefox", { skip: NO_MODULE || noFirefox }, async () => {
     const script = `const run = ${run};
         return run(await (await fetch("/${path.basename(MODULE)}")).arrayBuffer());`;
     check(await readInFirefox(path.dirname(MODULE), script));

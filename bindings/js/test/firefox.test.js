@@ -4,11 +4,11 @@ import { existsSync } from "node:fs";
 import { test } from "node:test";
 import { fileURLToPath } from "node:url";
 import { load } from "../src/i_shape.js";
-import { hasFirefox, readInFirefox } from "./support/firefox.js";
+import { noFirefox, readInFirefox } from "./support/firefox.js";
 import { MODULE } from "./support/modules.js";
 
 const FOLDER = fileURLToPath(new URL("..", import.meta.url));
-const skip = (!hasFirefox && "there is no firefox-esr") || (!existsSync(`${FOLDER}/out/i_shape32.wasm`) && "`make wasm` builds what it loads");
+const skip = noFirefox || (!existsSync(`${FOLDER}/out/i_shape32.wasm`) && "`make wasm` builds what it loads");
 
 /** What the calls answer to the same random contours in each run: of few places, so that many points lie on a line or come twice. It is handed to a browser as text, too. */
 function answers(shapes) {

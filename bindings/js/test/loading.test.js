@@ -7,7 +7,7 @@ import path from "node:path";
 import { after, before, describe, test } from "node:test";
 import { fileURLToPath } from "node:url";
 import { load } from "../src/i_shape.js";
-import { Browser, hasChromium, serve } from "./support/chromium.js";
+import { Browser, isQuick, noChromium, serve } from "./support/chromium.js";
 
 const PACKAGE = fileURLToPath(new URL("..", import.meta.url));
 const POLICY = "default-src 'none'; script-src 'self' 'wasm-unsafe-eval'; connect-src 'self'; worker-src 'self'";
@@ -87,7 +87,7 @@ describe("loading", () => {
         await assert.rejects(load(url), (error) => error.message.startsWith(url.href) && error.cause.code === "ENOENT");
     });
 
-    const bundling = { skip: spawnSync("esbuild", ["--version"]).status !== 0 && "there is no esbuild" };
+    const bundling = { skip: isQuick || (spawnSync("esbuild", ["--version"]).status !== 0 && "there is no esbuild") };
     for (const [loader, source, packed] of [
         ["file", "new URL(module, import.meta.url)", 2],
         ["binary", "module", 1],
@@ -109,7 +109,7 @@ describe("loading", () => {
         assert.match(stderr, /i_shape\d\d\.wasm: ENOENT.*: a bundler may have left the module out, and the README of i_shape shows how to name it/);
     }));
 
-    test("imported by TypeScript", { skip: spawnSync("tsc", ["--version"]).status !== 0 && "there is no tsc" }, () => inApp((folder) => {
+    test("imported by TypeScript", { skip: isQuick || (spawnSync("tsc", ["--version"]).status !== 0 && "there is no tsc") }, () => inApp((folder) => {
         writeFileSync(path.join(folder, "package.json"), '{ "type": "module" }');
         writeFileSync(path.join(folder, "app.ts"), appOf("new URL(module, import.meta.url)"));
         const words = ["--noEmit", "--strict", "--target", "es2022", "--lib", "es2022,dom", "--module", "node16", "--moduleResolution", "node16", "app.ts"];
@@ -117,7 +117,7 @@ describe("loading", () => {
         assert.equal(status, 0, stdout);
     }));
 
-    test("a page and its worker, under a strict policy", { skip: !hasChromium && "there is no chromium" }, async () => {
+    test("a page and its worker, under a strict policy", { skip: noChromium }, async () => {
         const browser = await Browser.open();
         try {
             await browser.goTo(served.url);

@@ -12,6 +12,7 @@ from pathlib import Path
 import numpy as np
 
 import i_shape
+import samples
 
 HERE = Path(__file__).resolve().parent
 EXAMPLE = HERE.parents[2] / "examples" / "layout.py"
@@ -30,6 +31,7 @@ def is_clean(ring):
     return i_shape.is_simple(np.array(ring, np.int64))
 
 
+@samples.takes_long
 @unittest.skipUnless(KLAYOUT, WHY_NOT)
 class Layout(unittest.TestCase):
 

@@ -10,11 +10,14 @@ import tempfile
 import unittest
 from pathlib import Path
 
+import samples
+
 TOP = Path(__file__).resolve().parents[3]
 PAGE = TOP / "docs" / "PYTHON.md"
 CONFIG = TOP / "bindings" / "python" / "pyproject.toml"
 
 
+@samples.takes_long
 class Types(unittest.TestCase):
 
     @classmethod

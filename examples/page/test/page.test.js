@@ -9,13 +9,13 @@ import os from "node:os";
 import path from "node:path";
 import { after, before, describe, test } from "node:test";
 import { fileURLToPath } from "node:url";
-import { Browser, hasChromium, serve } from "../../../bindings/js/test/support/chromium.js";
+import { Browser, noChromium, serve } from "../../../bindings/js/test/support/chromium.js";
 import { frameOf } from "../board.js";
 
 const HERE = path.dirname(fileURLToPath(import.meta.url));
 const SCREENSHOTS = process.env.I_SHAPE_SCREENSHOTS;
 const isBuilt = existsSync(path.join(HERE, "../../../bindings/js/out/i_shape32.wasm"));
-const skip = (!hasChromium && "there is no chromium") || (!isBuilt && "`make wasm` builds what it shows");
+const skip = noChromium || (!isBuilt && "`make wasm` builds what it shows");
 // The numbers of a square of 4 by 4 with a straight point.
 const SQUARE_NUMBERS = { given: "5 points in 1 ring", left: "4 points in 1 ring", removed: "1: 1 straight", area: "16" };
 const BROWSERS = [

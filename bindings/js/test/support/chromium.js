@@ -16,8 +16,11 @@ const TYPES = {
 const WORDS = ["--headless=new", "--no-sandbox", "--disable-gpu", "--disable-dev-shm-usage", "--no-first-run"];
 const PATIENCE = 60_000;
 
-/** Whether there is a Chromium that opens a page here. */
-export const hasChromium = spawnSync("chromium", [...WORDS, "--dump-dom", "about:blank"], { timeout: PATIENCE }).status === 0;
+/** Why tests that take seconds, as those in a browser, are skipped, or false. */
+export const isQuick = Boolean(process.env.QUICK_TESTS) && "QUICK_TESTS is set";
+
+/** Why no Chromium opens a page here, or false. */
+export const noChromium = isQuick || (spawnSync("chromium", [...WORDS, "--dump-dom", "about:blank"], { timeout: PATIENCE }).status !== 0 && "there is no chromium");
 
 /** Serves the files of a folder, but for requests that `takes` answers, and answers the server and the address of the folder. */
 export async function serve(folder, takes = () => false) {

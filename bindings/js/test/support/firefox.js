@@ -4,7 +4,7 @@ import { mkdtempSync, rmSync } from "node:fs";
 import os from "node:os";
 import path from "node:path";
 import { json } from "node:stream/consumers";
-import { serve } from "./chromium.js";
+import { isQuick, serve } from "./chromium.js";
 
 const PATIENCE = 120_000;
 
@@ -13,14 +13,15 @@ function own(home, ...words) {
     return ["firefox-esr", ["--headless", "--no-remote", "--profile", home, ...words], { ...process.env, HOME: home }];
 }
 
-/** Whether there is a Firefox that opens a page here. */
-export const hasFirefox = (() => {
-    if (spawnSync("firefox-esr", ["--version"]).status !== 0) return false;
+/** Why no Firefox opens a page here, or false. */
+export const noFirefox = isQuick || (() => {
+    const none = "there is no firefox-esr";
+    if (spawnSync("firefox-esr", ["--version"]).status !== 0) return none;
     const home = mkdtempSync(path.join(os.tmpdir(), "firefox-"));
     const [name, words, env] = own(home, "--screenshot", path.join(home, "blank.png"), "about:blank");
     const { status } = spawnSync(name, words, { env, timeout: PATIENCE });
     rmSync(home, { recursive: true, force: true });
-    return status === 0;
+    return status !== 0 && none;
 })();
 
 /** The page: `script` is the body of a function that may wait. */
