@@ -84,6 +84,13 @@ pub fn brace(open: bool) -> (char, &'static str) {
 }
 
 #[test]
+fn a_backslash_that_is_escaped_escapes_no_quote() {
+    let source = "pub fn f() -> &'static str\n    ensures { \"\\\\\" }\n{\n    \"\\\\\"\n}\n";
+    let rust = "pub fn f() -> &'static str {\n    \"\\\\\"\n}\n";
+    assert_eq!(left("backslash", source), rust);
+}
+
+#[test]
 fn primes_lifetimes_and_letters_are_apart() {
     let source = "\
 pub fn first<'a>(x: &'a [char]) -> &'a char

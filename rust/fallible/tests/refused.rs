@@ -202,7 +202,8 @@ fn made_lists_hold_their_items_or_none_is_made() {
     ];
     for make in made {
         assert!(given(0, make).is_err());
-        assert_eq!(given(1, make).expect("memory")[..], [4, 4]);
+        let list = given(1, make).expect("memory");
+        assert_eq!((&list[..], list.capacity()), (&[4, 4][..], 2));
     }
     assert!(given(0, || Vec::<u8>::from_elem(Global, 4, 0)).is_ok());
     assert!(given(0, || Vec::<u8>::with_capacity(Global, 0)).is_ok());
