@@ -1,7 +1,7 @@
 #!/usr/bin/env bash
 # Builds the WebAssembly module by cargo and runs the tests of the package for JavaScript and of examples/page by Node: beside the native library, where there is a C
-# compiler, and in browsers. It takes Node from 20.6 on: Debian 12's own is older, and one from NodeSource or nodejs.org serves. Without --quick the tests of C run
-# as a module too; with it no browser, no bundler and no tsc does.
+# compiler, and without --quick in browsers, with esbuild and tsc, and those of C as a module. It takes Node from 20.6 on: Debian 12's own is older, and one from
+# NodeSource or nodejs.org serves.
 . "$(dirname "$0")/part.sh" || exit 1
 package=bindings/js
 
