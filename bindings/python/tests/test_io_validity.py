@@ -143,6 +143,20 @@ class Checked(CommandCase):
                " meets edge 2 from (4, 0)"}) for point in ([0, 0], [4, 0])]
             + [(None, {"fid": 2, "reason": FAULTS[-1][2]})])
 
+    def test_the_points_have_the_members_of_the_collection(self):
+        crs = {"type": "name",
+               "properties": {"name": "urn:ogc:def:crs:EPSG::25832"}}
+        for crossed in ([samples.polygon([(0, 0), (4, 4), (4, 0), (0, 4)])],
+                        []):
+            given = samples.geojson(*crossed)
+            for members in ({"crs": crs, **given}, {**given, "crs": crs}):
+                self.write(members)
+                self.run_command("check", self.given, "--step", "1", "--to",
+                                 self.out, status=len(crossed))
+                written = json.loads(self.out.read_text())
+                self.assertEqual(written["crs"], crs)
+                self.assertEqual(len(written["features"]), 2 * len(crossed))
+
     def test_others_are_left_out_or_refused(self):
         self.write(samples.geojson({"type": "Point", "coordinates": [0, 0]},
                                    samples.polygon(samples.SQUARE)))
@@ -211,6 +225,31 @@ class CheckedGeoPackage(GeoPackageCase):
         self.assertEqual(self.given.read_bytes(), before)
         self.assertEqual({path.name for path in self.folder.iterdir()},
                          {"given.gpkg", "faults.geojson"})
+
+    def test_the_crs_of_the_points(self):
+        """The layers' CRS is named if they have one, and it isn't WGS 84."""
+        self.fill()
+        self.fill(layer="fields")
+        self.change("CREATE TABLE gpkg_spatial_ref_sys (srs_id INTEGER,"
+                    " organization TEXT, organization_coordsys_id INTEGER,"
+                    " definition TEXT)")
+        self.change("INSERT INTO gpkg_spatial_ref_sys VALUES"
+                    " (4326, 'EPSG', 4326, ''), (7, 'epsg', 25832, ''),"
+                    " (0, 'NONE', 0, ''), (-1, 'NONE', -1, '')")
+        name = {"name": "urn:ogc:def:crs:EPSG::25832"}
+        wanted = {"type": "name", "properties": name}
+        faults = self.folder / "faults.geojson"
+        for srs, crs in (((7, 7), wanted), ((4326, 4326), None),
+                         ((0, 0), None), ((-1, -1), None), ((9, 9), None),
+                         ((7, 4326), None)):
+            for layer, number in zip(("parcels", "fields"), srs):
+                self.change("UPDATE gpkg_geometry_columns SET srs_id ="
+                            f" {number} WHERE table_name = '{layer}'")
+            with self.subTest(srs=srs):
+                self.run_command("check", self.given, "--step", "1", "--to",
+                                 faults)
+                written = json.loads(faults.read_text())
+                self.assertEqual(written.get("crs"), crs)
 
 
 if __name__ == "__main__":

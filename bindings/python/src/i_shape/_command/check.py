@@ -23,10 +23,11 @@ def _points(group: str, fid: int,
                "geometry": geometry}
 
 
-def _write(points: list[dict[str, Any]], to: Path) -> None:
+def _write(points: list[dict[str, Any]], frame: tuple[str, str],
+           to: Path) -> None:
+    head, tail = frame
     lines = ",\n".join(map(json.dumps, points))
-    to.write_text('{"type": "FeatureCollection", "features": [\n'
-                  f"{lines}\n]}}\n", encoding="utf-8")
+    to.write_text(f"{head}{lines}{tail}", encoding="utf-8")
 
 
 def run(pair: Pair, grid: Grid, to: Optional[Path]) -> Told:
@@ -47,6 +48,6 @@ def run(pair: Pair, grid: Grid, to: Optional[Path]) -> Told:
                 lines.append(f"{record.place}: {fault}")
                 points += _points(block.group, record.fid, fault)
     if to:
-        _write(points, to)
+        _write(points, pair.collection(), to)
     return Told(lines, f"{len(lines)} of {count} features invalid",
                 1 if lines else 0)

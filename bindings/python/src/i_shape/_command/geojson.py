@@ -20,6 +20,17 @@ _COORDINATES = re.compile(_NAME + r'[ \t\n\r]*:[ \t\n\r]*'
 FEATURE = '{"type": "Feature", "properties": null, "geometry": ', "}"
 
 
+def collection_frame(crs: Optional[str] = None) -> tuple[str, str]:
+    """What stands before the features of a new collection, and behind them.
+
+    A CRS is named as GDAL and QGIS name it, though RFC 7946 has no such
+    member.
+    """
+    named = {"type": "name", "properties": {"name": crs}}
+    member = f' "crs": {json.dumps(named)},' if crs else ""
+    return f'{{"type": "FeatureCollection",{member} "features": [\n', "\n]}\n"
+
+
 def _geometry_record(fid: int, geometry: Members, before: str = "",
                      behind: str = "", line: Optional[int] = None) -> Record:
     """The record of a geometry in what stands around it."""

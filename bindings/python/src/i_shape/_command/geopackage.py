@@ -19,6 +19,7 @@ import numpy as np
 from ..io import FeatureError, Features, _wkb, from_wkb, to_wkb
 from ..io._builder import Builder, short
 from .blocks import Block, in_blocks
+from .geojson import collection_frame
 from .progress import track
 
 _POLYGONS = {"GEOMETRY", "GEOMETRYCOLLECTION", "SURFACE", "CURVEPOLYGON",
@@ -253,19 +254,35 @@ class GeoPackage:
                                      " without a key")
                 yield Row(layer, fid, blob)
 
+    def _of_srs(self, value: str) -> set[Any]:
+        """The values of an SQL expression for the SRS of the layers."""
+        execute = self._store.execute
+        with _naming(self._given):
+            if not execute("SELECT 1 FROM main.sqlite_master WHERE name ="
+                           " 'gpkg_spatial_ref_sys'").fetchone():
+                return {None}
+            return {execute(f"SELECT max({value})"
+                            " FROM main.gpkg_spatial_ref_sys"
+                            " WHERE srs_id = ?", (layer.srs,)).fetchone()[0]
+                    for layer in self._layers}
+
     @property
     def area_unit(self) -> str:
         """What areas are in: degrees if each layer says that it is."""
-        execute = self._store.execute
-        with _naming(self._given):
-            if execute("SELECT 1 FROM main.sqlite_master WHERE name ="
-                       " 'gpkg_spatial_ref_sys'").fetchone():
-                are = {execute("SELECT max(ltrim(definition) LIKE 'GEOG%')"
-                               " FROM main.gpkg_spatial_ref_sys"
-                               " WHERE srs_id = ?", (layer.srs,)).fetchone()[0]
-                       for layer in self._layers}
-                return "square degrees" if are == {1} else "square units"
-        return "square units"
+        are = self._of_srs("ltrim(definition) LIKE 'GEOG%'")
+        return "square degrees" if are == {1} else "square units"
+
+    def collection(self) -> tuple[str, str]:
+        """The frame of a collection of GeoJSON in the CRS of the layers.
+
+        It names none if they have several, or that of GeoJSON.
+        """
+        codes = self._of_srs(
+            "CASE WHEN upper(organization) <> 'NONE' THEN"
+            " upper(organization) || '::' || organization_coordsys_id END")
+        code = codes.pop() if len(codes) == 1 else None
+        return collection_frame(f"urn:ogc:def:crs:{code}" if code
+                                and code != "EPSG::4326" else None)
 
     def blocks(self) -> Iterator[Block]:
         for layer in self._layers:

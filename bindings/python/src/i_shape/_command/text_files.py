@@ -8,13 +8,12 @@ from ..io import Features, _wkt
 from ..io._geojson import add_geometry
 from .blocks import Block, Record, in_blocks
 from .decimals import coordinate_texts
-from .geojson import FEATURE, Document, line_records
+from .geojson import FEATURE, Document, collection_frame, line_records
 from .progress import track
 
 _FRAMES = tuple(
     (f'{FEATURE[0]}{{"type": "{kind}", "coordinates": ', f"}}{FEATURE[1]}")
     for kind in ("Polygon", "MultiPolygon"))
-_COLLECTION = '{"type": "FeatureCollection", "features": [\n', "\n]}\n"
 
 
 def _wkt_records(file: TextIO) -> Iterator[Record]:
@@ -99,7 +98,12 @@ class TextPair:
         """What stands before the features, and behind them."""
         if self._document:
             return self._document.head, self._document.tail
-        return _COLLECTION
+        return collection_frame()
+
+    def collection(self) -> tuple[str, str]:
+        """The frame of a collection, with the members that this text has."""
+        head, tail = self._frame()
+        return (head, tail) if head else collection_frame()
 
     def end(self) -> None:
         """Write what stands behind the features.
@@ -110,7 +114,7 @@ class TextPair:
         if self._out_format == "GeoJSON":
             head, tail = self._frame()
             if not self._is_begun:
-                head, tail = (head, tail) if head else _COLLECTION
+                head, tail = self.collection()
                 self._out.write(head)
             self._out.write(tail)
         self._out.flush()
