@@ -279,7 +279,7 @@ DOUBLES = """#![tactic(auto)]
 ghost use Rattle.std.specs.Prelude.{◌≡◌, ◌+◌, ◌*◌, ◌<◌};
 
 pub fn doubled(number: u32) -> u32
-    requires { number < 1000 }
+    requires small { number < 1000 }
     ensures twice { result ≡ number + number }
     ensures small { result < 2000 }
 {
@@ -315,9 +315,11 @@ EDITS = (
     ("names_a_clause", "doubled\nclause: twice", SUM, "    number", "refused at doubled: returns-clause-twice"),
     ("names_another", "doubled\nclause: small", SUM, "    number", "NOT REFUSED by the clause small of doubled, but at returns-clause-twice"),
     ("fails_an_answer_too", f"{LONG}\nclause: small", "    number * 3", "    number + 3000", f"refused at {LONG}: returns-clause-small, returns-clause-thrice"),
-    ("lists_its_goals", "doubled\ngoals: returns-clause-twice", SUM, "    number", "refused at doubled: returns-clause-twice"),
+    ("lists_its_goals", "doubled\nclause: twice\ngoals: returns-clause-twice", SUM, "    number", "refused at doubled: returns-clause-twice"),
     ("loses_a_goal", LONG, "    number * 3", "    if number == 0 { 0 } else { number * 3 }", f"NOT REFUSED at a goal of {LONG}: its proof names what the edit took away"),
     ("turns_nothing", "doubled", SUM, "    number.wrapping_add(number)", "NOT REFUSED at doubled"),
+    ("names_what_a_call_requires", "quadrupled\nclause: small", "doubled(doubled(number))", "doubled(doubled(number) * 2)", "NOT REFUSED by the clause small of quadrupled, but at "),
+    ("changes_a_contract", "doubled", "{ result < 2000 }", "{ result < 2 }", "BAD EDIT: it changes a contract"),
     ("turns_the_callee", "quadrupled", SUM, "    number", "NOT REFUSED at quadrupled, but at doubled"),
     ("text_is_not_there", "doubled", "number * 2", "number * 3", "BAD EDIT: its old text stands in src/lib.rt 0 times"),
     ("does_not_parse", "doubled", SUM, "    (number + number", "BAD EDIT: it did not reach the prover"),
@@ -343,7 +345,7 @@ class WrongTest(Case):
         status, said = self.run_wrong()
         for name, *_, what in EDITS:
             self.assertIn(f"wrong doubles/{name}: {what}", said)
-        self.assertEqual((status, said.splitlines()[-1]), (1, "wrong bodies: 4 passed, 6 failed"))
+        self.assertEqual((status, said.splitlines()[-1]), (1, "wrong bodies: 4 passed, 8 failed"))
         # What passed is noted, and tried again where something changes that it was judged by.
         note = "wrong doubles/forgets_half: refused at doubled by an earlier run: returns-clause-twice"
         self.assertIn(note, self.run_wrong("--only", "forgets_half", "--write")[1])

@@ -3,8 +3,8 @@
 
 docs/develop/README.md says what an edit is. Edits are put into a copy of their crate, at most one for each function, and checked together, over what earlier
 checks kept. An edit passes where the prover leaves a goal of its own function open, and one of these is of the clause that the edit names: the goal
-'returns-clause-NAME', say, or the goal NAME itself. A fault of a function that it calls, or a text that cannot be read, is not enough. Rounds go on until each
-edit is judged. The libraries below a crate whose edits are tried are proved first, where they aren't.
+'returns-clause-NAME', say, or the goal NAME itself, which may be one of a loop or of a call. A fault of a function that it calls, or a text that cannot be read,
+is not enough. Rounds go on until each edit is judged. The libraries below a crate whose edits are tried are proved first, where they aren't.
 
 With --quick, the goals that the line 'goals' of an edit lists, those that were open when it was written, are given the answer `search rules` in the copy, where
 its function has none. Rattle's own attempt at such a goal fails three times as slowly, and is made again to print what is open. But it proves more: a right body
@@ -68,7 +68,12 @@ class Edit:
         for path in {path for path, _, _ in self.pairs}:
             if os.path.normpath(path) != path or not path.startswith("src/") or not os.path.isfile(f"{folder}/{path}"):
                 return f"there is no file {path} of code"
-        return self.edited(folder)[1]
+        return self.edited(folder)[1] or ("it changes a contract" if self.changes_contract(folder) else None)
+
+    def changes_contract(self, folder):
+        """Whether an old text stands behind the first word of a clause, and before the body or the end of the method."""
+        above = (read(f"{folder}/{path}").partition(old)[0] + old for path, old, _ in self.pairs)
+        return any(re.search(r"^ *(?:requires|ensures)\b(?:(?!^ *\{$|;$).)*\Z", it, re.M | re.S) for it in above)
 
     def edited(self, folder):
         """Returns the edited texts by their path, and why there are none where an old text doesn't stand there once."""
@@ -81,12 +86,13 @@ class Edit:
         return texts, None
 
     def is_excluded_by(self, goal):
-        """Whether the goal is of the clause that the edit names, or the edit names none."""
-        return self.clause in (None, goal) or goal.endswith(f"-clause-{self.clause}")
+        """Whether the goal is of the clause that the edit names, and not of what a call requires, or the edit names none."""
+        return self.clause in (None, goal) or goal.endswith(f"-clause-{self.clause}") and "-requires-" not in goal
 
     def write_goals(self, goals):
-        """Writes into its file which goals were open, and, where it names no clause, that of the first."""
-        self.open, self.clause = goals, self.clause or goals[0].rpartition("-clause-")[2]
+        """Writes into its file which goals were open, and, where it names no clause, that of the first at which the function returns, or of the first."""
+        at_return = next((it for it in goals if it.startswith("returns")), None)
+        self.open, self.clause = goals, self.clause or (at_return.rpartition("-clause-")[2] if at_return else goals[0])
         bare = re.sub(r"^(clause|goals):.*\n", "", self.text, flags=re.M)
         self.text = re.sub(r"^(refused:.*\n)", rf"\1clause: {self.clause}\ngoals: {' '.join(goals)}\n", bare, count=1, flags=re.M)
         with open(self.file, "w", encoding="utf-8") as out:
@@ -233,6 +239,10 @@ class Trial:
         with tempfile.TemporaryDirectory(prefix="wrong-") as room:
             while self.left:
                 taken = self.lay_round(room)
+                for edit in [] if taken else list(self.left):
+                    self.judge(edit, "BAD EDIT: its old text no longer stands there once")
+                if not taken:
+                    break
                 found = self.check(taken, room)
                 known = len(self.passed)
                 for edit in taken:
@@ -347,9 +357,9 @@ def main():
     # notes that no run has used for sixty days go
     subprocess.run(["find", NOTES, "-type", "f", "-mtime", "+60", "-delete"], stderr=subprocess.DEVNULL, check=False)
     if unnamed := sum(not it.clause for it in chosen):
-        print(f"{unnamed} wrong bodies name no clause")
+        print(f"{unnamed} wrong bodies name no clause: --write adds it")
     print(f"wrong bodies: {passed} passed, {failed} failed")
-    return failed > 0
+    return failed > 0 or unnamed > 0
 
 
 if __name__ == "__main__":
