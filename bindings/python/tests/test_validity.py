@@ -7,7 +7,7 @@ import unittest
 import numpy as np
 
 try:
-    from shapely import geometry
+    from shapely import geometry, validation
     WHY_NOT = None
 except ImportError as error:
     WHY_NOT = f"validity is not compared with shapely: {error}"
@@ -16,7 +16,7 @@ except ImportError as error:
 import i_shape
 import plain
 import samples
-from i_shape import Fault
+from i_shape import Fault, io
 from test_polygons import flat
 
 SQUARE = [(0, 0), (4, 0), (4, 4), (0, 4)]
@@ -108,6 +108,69 @@ class Answers(unittest.TestCase):
                                  (polygons, low, high))
                 kinds.update(faults["kind"].tolist())
         self.assertEqual(kinds, set(Fault))
+
+
+def small_contours(count):
+    """All contours of so many points on a grid of 4 by 4, from their least
+    points on: points and offsets, in parts."""
+    for least in range(16):
+        places = np.indices((16 - least,) * (count - 1), np.int16)
+        places = least + np.insert(places.reshape(count - 1, -1).T, 0, 0, 1)
+        points = np.stack(np.divmod(places, 4), 2).reshape(-1, 2)
+        yield points, np.arange(0, len(points) + 1, count)
+
+
+def with_middles(ring, numbers):
+    """The ring, twice as large, with the middles of some edges."""
+    for (ax, ay), (bx, by) in zip(ring, ring[1:] + ring[:1]):
+        yield 2 * ax, 2 * ay
+        if numbers.random() < 0.5:
+            yield ax + bx, ay + by
+
+
+class Cleaning(unittest.TestCase):
+
+    def test_all_small_contours(self):
+        """A simple polygon stays one, and despike leaves it. Other contours
+        become one by both calls or by neither."""
+        kept = changed = gained = 0
+        for count in range(3, 7):
+            for given in small_contours(count):
+                before = i_shape.are_simple_polygons(*given)
+                lefts = [call(*given) for call in (
+                    i_shape.simplify_rings, i_shape.despike_rings)]
+                simplified, despiked = (
+                    i_shape.are_simple_polygons(*left) for left in lefts)
+                lengths = [np.diff(left.offsets) for left in lefts]
+                self.assertTrue(simplified[before].all())
+                self.assertTrue((lengths[1][before] == count).all())
+                self.assertTrue((simplified == despiked).all())
+                kept += int(before.sum())
+                changed += int((lengths[0][before] < count).sum())
+                gained += int((simplified & ~before).sum())
+        self.assertTrue(0 < changed < kept and gained)
+
+    def test_random_polygons(self):
+        """A valid polygon stays one, and despike leaves it. Others are left
+        with faults of the same kinds by both calls."""
+        numbers = random.Random(75)
+        polygons = [[list(with_middles(ring, numbers)) for ring in polygon]
+                    for polygon in (small_polygon(numbers) for _ in range(
+                        100_000 if samples.is_long else 4_000))]
+        given = flat(polygons, np.int32)
+        np.testing.assert_array_equal(*(
+            i_shape.polygon_validity(*call(*given))["kind"] for call in (
+                i_shape.simplify_polygons, i_shape.despike_polygons)))
+        kinds = i_shape.polygon_validity(*given)["kind"]
+        valid = flat([polygon for polygon, kind in zip(polygons, kinds)
+                      if kind == Fault.VALID], np.int32)
+        left = i_shape.simplify_polygons(*valid)
+        self.assertLess(len(left.points), len(valid[0]))
+        faults = i_shape.polygon_validity(*left)["kind"]
+        self.assertEqual(len(faults), len(valid[2]) - 1)
+        self.assertTrue((faults == Fault.VALID).all())
+        for part, its in zip(i_shape.despike_polygons(*valid), valid):
+            np.testing.assert_array_equal(part, its)
 
 
 class Errors(unittest.TestCase):
@@ -206,6 +269,17 @@ class BesideShapely(unittest.TestCase):
         self.assertEqual(set(counts), {
             "valid for both", "invalid for both", "a repeated point",
             "a touch at a point"})
+
+    def test_what_make_valid_leaves_may_touch(self):
+        ring = SQUARE + [(0, 0), (1, 2), (2, 1)]
+        repaired = validation.make_valid(geometry.Polygon(ring))
+        self.assertTrue(repaired.is_valid)
+        polygons = io.from_shapely([repaired]).polygons
+        points, rings, ends = polygons
+        self.assertEqual(len(rings), 3)
+        self.assertEqual(i_shape.polygon_validity(
+            points.astype(np.int32), rings, ends)["kind"].tolist(),
+            [Fault.CONTACT])
 
 
 if __name__ == "__main__":
