@@ -243,6 +243,35 @@ class Validity(ExampleCase):
         self.assertIn("0 of 36 invalid, 36 as before", left)
 
 
+class Rounding(ExampleCase):
+
+    name = "rounding"
+
+    def test_faults_of_each_step(self):
+        square = [(0, 0), (40, 0), (40, 40), (0, 40)]
+        bow_tie = [(0, 0), (40, 40), (40, 0), (0, 40)]
+        spike = square[:3] + [(90, 90), (40, 40)]
+        small = [(1, 1), (2, 1), (2, 2)]
+        out = text_io.StringIO()
+        with contextlib.redirect_stdout(out):
+            self.example.show("rings", [square, square[::-1], bow_tie, spike,
+                                        small], io.Grid(0.1))
+        first, *lines = out.getvalue().splitlines()
+        self.assertEqual(
+            first, "5 rings with a precision of 0.1, 3 valid by shapely")
+        self.assertEqual(len(lines), 10)
+        cleaned = "4 valid, 1 contact"
+        self.assertEqual(lines[0], f"1e-7; rounded: 3 valid, 2 contact;"
+                         f" simplify: {cleaned}; despike: {cleaned}")
+        cleaned = "3 valid, 1 contact, 1 collapsed"
+        self.assertEqual(lines[7], f"1e0; rounded: 2 valid, 1 too_few_points,"
+                         f" 2 contact; simplify: {cleaned};"
+                         f" despike: {cleaned}")
+        cleaned = "0 valid, 5 collapsed"
+        self.assertEqual(lines[9], f"1e2; rounded: 0 valid, 5 too_few_points;"
+                         f" simplify: {cleaned}; despike: {cleaned}")
+
+
 class Tiles(ExampleCase):
 
     name = "tiles"
