@@ -153,11 +153,11 @@ class _Algorithm(QgsProcessingAlgorithm):
                     raise QgsProcessingException(
                         error.named(f"fid {fid}")) from error
             feedback.pushInfo(self.last())
+            goal = self._write(parameters, context, source, found, feedback)
         except _Canceled:
             return {}
         except ValueError as error:
             raise QgsProcessingException(str(error)) from error
-        goal = self._write(parameters, context, source, found, feedback)
         return {"OUTPUT": goal, **self.more_results()}
 
     def _blocks(self, parameters, context, source, feedback):
@@ -206,7 +206,7 @@ class _Algorithm(QgsProcessingAlgorithm):
                 self.invalidSinkError(parameters, "OUTPUT"))
         for count, feature in enumerate(found):
             if feedback.isCanceled():
-                break
+                raise _Canceled
             feedback.setProgress(
                 _READING + (100 - _READING) * count / len(found))
             if not sink.addFeature(feature, QgsFeatureSink.FastInsert):
