@@ -103,7 +103,7 @@ class _Algorithm(QgsProcessingAlgorithm):
     def canExecute(self):
         try:
             import i_shape.io  # noqa: F401
-        except ImportError as error:
+        except (ImportError, OSError) as error:
             return False, (f"The Python package i_shape can't be used:"
                            f" {error}. Install its wheel into the Python of"
                            " QGIS.")

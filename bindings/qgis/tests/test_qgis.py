@@ -11,6 +11,7 @@ import sys
 import tempfile
 import unittest
 from pathlib import Path
+from unittest import mock
 
 CLEANED = ("simplify", "despike", "canonical")
 CALLS = (*CLEANED, "dedup")
@@ -299,8 +300,9 @@ class QgisTest(unittest.TestCase):
                 self.assertNotEqual(status, 0)
                 self.assertIn(said, told)
                 self.assertFalse(out.exists())
-        path = os.environ.pop("PYTHONPATH")
-        self.addCleanup(os.environ.__setitem__, "PYTHONPATH", path)
-        status, told = self.ask_qgis("simplify", given, out, "STEP=1")
-        self.assertNotEqual(status, 0)
-        self.assertIn("The Python package i_shape can't be used: No module named 'i_shape'. Install its wheel into the Python of QGIS.", told)
+        for name, value, said in (("PYTHONPATH", "", "No module named 'i_shape'"),
+                                  ("I_SHAPE_C_DIR", "/none", "/none/libi_shape.so: cannot open shared object file")):
+            with self.subTest(name=name), mock.patch.dict(os.environ, {name: value}):
+                status, told = self.ask_qgis("simplify", given, out, "STEP=1")
+                self.assertNotEqual(status, 0)
+                self.assertRegex(told, rf"The Python package i_shape can't be used: {said}.*\. Install its wheel into the Python of QGIS.")
