@@ -52,6 +52,13 @@ def _loses(kind, layer):
             or (QgsWkbTypes.hasM(kind) and not QgsWkbTypes.hasM(layer)))
 
 
+def _are_full(features):
+    """Which features have points."""
+    (_, rings, parts), offsets, _ = features
+    ends = rings[parts[offsets]]
+    return ends[:-1] < ends[1:]
+
+
 class _Canceled(Exception):
     """The user has stopped the algorithm."""
 
@@ -273,8 +280,7 @@ class _Cleaner(_Algorithm):
 
     def _collapsing(self, block, whole, left):
         """The places in the block of the features that collapse."""
-        from i_shape.io._collapse import are_collapsed
-        gone = are_collapsed(whole, left).nonzero()[0].tolist()
+        gone = (_are_full(whole) & ~_are_full(left)).nonzero()[0].tolist()
         if gone and self._first is None:
             self._first = block.fid(gone[0])
         self._count += len(block.blobs)
@@ -282,11 +288,11 @@ class _Cleaner(_Algorithm):
         return {block.places[place] for place in gone}
 
     def last(self):
-        from i_shape.io._collapse import collapse_text
         if self._gone and self._collapsed == "error":
-            text = collapse_text(self._gone, self._count, "features",
-                                 "Collapsed: empty or drop")
-            raise QgsProcessingException(f"fid {self._first}: {text}")
+            raise QgsProcessingException(
+                f"nothing is left of {self._gone} of {self._count} features,"
+                f" of fid {self._first} first; is the step in the unit of the"
+                " coordinates? To allow this, use Collapsed: empty or drop")
         return f"{self._gone} of {self._count} features collapsed"
 
 
@@ -382,10 +388,10 @@ class Validity(_Algorithm):
     HELP = ("Rounds polygons onto a grid, and finds those that aren't valid"
             " there: with a ring of fewer than three points or of equal ones,"
             " edges that cross, touch or overlap, or a hole outside the outer"
-            " ring or within another hole. For each such feature the output has one, with the kind,"
-            " the place and the points of its first fault: for two edges the"
-            " points from which they lead, or else the first point of the"
-            " ring.")
+            " ring or within another hole. For each such feature the output"
+            " has one, with the kind, the place and the points of its first"
+            " fault: for two edges the points from which they lead, or else"
+            " the first point of the ring.")
     OTHERS_HELP = _OTHERS_HELP + _UNTESTED_HELP
 
     def initAlgorithm(self, config=None):

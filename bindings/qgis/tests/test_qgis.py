@@ -257,7 +257,7 @@ class QgisTest(unittest.TestCase):
         out = self.work / "out.gpkg"
         status, told = self.ask_qgis("simplify", given, out, "STEP=0.5")
         self.assertNotEqual(status, 0)
-        self.assertIn("fid 4: nothing is left of it, nor of 1 other of 3 features; is the step in the unit of the coordinates?", told)
+        self.assertIn("nothing is left of 2 of 3 features, of fid 4 first; is the step in the unit of the coordinates?", told)
         self.assertFalse(out.exists())
         for collapsed, count in (("empty", 3), ("drop", 1)):
             with self.subTest(collapsed=collapsed):
