@@ -5,8 +5,10 @@ from __future__ import annotations
 import math
 
 from processing.gui.wrappers import WidgetWrapper
+from processing.modeler.ModelerParametersDialog import ModelerParametersDialog
 from processing.tools.dataobjects import createContext
 from qgis.core import QgsProcessingUtils, QgsProperty, QgsVectorLayer
+from qgis.gui import QgsGui
 from qgis.PyQt.QtWidgets import QLineEdit
 
 _DIGITS = 10  # of the greatest coordinate
@@ -32,7 +34,16 @@ def suggested_step(layer):
 
 class StepWidget(WidgetWrapper):
     """A line with the step. Another layer suggests another step, unless the
-    user has typed one."""
+    user has typed one. A model's step may be one of its inputs, so there it
+    is QGIS's own widget for numbers."""
+
+    def __new__(cls, parameter, dialog, *places):
+        if not isinstance(dialog, ModelerParametersDialog):
+            return super().__new__(cls)
+        its = QgsGui.processingGuiRegistry().createModelerParameterWidget(
+            dialog.model, dialog.childId, parameter, dialog.context)
+        its.setDialog(dialog)
+        return its
 
     def createWidget(self):
         self._is_typed = False

@@ -1,6 +1,6 @@
 #!/usr/bin/env python3
 """Opens the dialog of an algorithm without a screen, and looks at the step that it suggests: by the extent, by the layer's own precision, and one that a user
-has typed. With a file's name it draws the dialog into that.
+has typed; and in a model at a step that is an input. With a file's name it draws the dialog into that.
 
 usage: dialog.py [FILE.png]
 """
@@ -9,7 +9,8 @@ import sys
 
 sys.path.append("/usr/share/qgis/python/plugins")
 sys.path.append(os.environ["QGIS_PLUGINPATH"])
-from qgis.core import QgsApplication, QgsFeature, QgsGeometry, QgsProject, QgsVectorLayer  # noqa: E402
+from qgis.core import (QgsApplication, QgsFeature, QgsGeometry, QgsProcessingModelAlgorithm, QgsProcessingModelChildAlgorithm,  # noqa: E402
+                       QgsProcessingModelChildParameterSource, QgsProcessingModelParameter, QgsProcessingParameterNumber, QgsProject, QgsVectorLayer)
 from qgis.PyQt.QtTest import QTest  # noqa: E402
 
 
@@ -21,6 +22,19 @@ def layer(system, text, precision=0.0):
     its.updateExtents()
     its.geometryOptions().setGeometryPrecision(precision)
     return QgsProject.instance().addMapLayer(its)
+
+
+def model_step(source):
+    """Where the step of an algorithm in a model comes from, once its dialog has been opened and accepted."""
+    from processing.modeler.ModelerParametersDialog import ModelerParametersDialog
+    model, child = QgsProcessingModelAlgorithm(), QgsProcessingModelChildAlgorithm("i_shape:simplify")
+    model.addModelParameter(QgsProcessingParameterNumber("grid", "grid"), QgsProcessingModelParameter("grid"))
+    child.setChildId("clean")
+    child.addParameterSources("STEP", [source])
+    model.addChildAlgorithm(child)
+    dialog = ModelerParametersDialog(child.algorithm(), model, "clean")
+    dialog.setPreviousValues()
+    return dialog.createAlgorithm().parameterSources()["STEP"]
 
 
 def main():
@@ -57,6 +71,8 @@ def main():
     QTest.keyClicks(line, "0.5")
     assert suggested(metres) == "0.5"
     dialog.close()
+    for source in QgsProcessingModelChildParameterSource.fromModelParameter("grid"), QgsProcessingModelChildParameterSource.fromStaticValue(0.5):
+        assert model_step(source) == [source], source.source()
     plugin.unload()
     sys.stdout.flush()
     os._exit(0)  # what QGIS does at the end needs a desktop
