@@ -129,7 +129,7 @@ install-postgres: $(if $(I_SHAPE_C_DIR),,c)
 
 # Installs the extension of SQLite, as `make sqlite` has built it, below PREFIX or in LIBDIR.
 install-sqlite: $(if $(I_SHAPE_C_DIR),,c)
-	@$(MAKE) -s -f bindings/sqlite/Makefile I_SHAPE_C_DIR=$(abspath $(C_OUT)) LIBDIR=$(LIBDIR) install
+	@$(MAKE) -s -f bindings/sqlite/Makefile I_SHAPE_C_DIR=$(abspath $(or $(I_SHAPE_C_DIR),$(C_OUT))) LIBDIR=$(LIBDIR) install
 
 # Removes the extension of SQLite.
 uninstall-sqlite:

@@ -44,6 +44,10 @@ test_module() {
     prints 'the names of the module' $'sqlite3_extension_init\nsqlite3_modishape_init\nsqlite3_modishapegpkg_init' \
         bash -c "nm -D --defined-only '$work/out/mod_i_shape.so' | sed 's/.* //' | sort"
     prints 'what it asks of a program' 0 bash -c "nm -D --undefined-only '$work/out/mod_i_shape.so' | grep -c sqlite3; true"
+    # make runs the inner make where it only prints what it would do
+    ln -s "$library/libi_shape.a" "$work"
+    prints 'make sqlite install-sqlite I_SHAPE_C_DIR=..' 2 \
+        bash -c "make -n sqlite install-sqlite 'I_SHAPE_C_DIR=$work' | grep -c 'I_SHAPE_C_DIR=$work\b'"
     check 'make install' build "$work/out" install "DESTDIR=$work/installed" LIBDIR=/usr/lib
     check 'what is installed' cmp "$work/out/mod_i_shape.so" "$work/installed/usr/lib/mod_i_shape.so"
 }
