@@ -228,8 +228,8 @@ static size_t open_count(const Reader *from, size_t count) {
     return first[0] == last[0] && first[1] == last[1] ? count - 1 : count;
 }
 
-static bool is_minus_zero(double x) {
-    return x == 0 && signbit(x);
+static bool has_minus_zero(const double xy[2]) {
+    return (xy[0] == 0 && signbit(xy[0])) || (xy[1] == 0 && signbit(xy[1]));
 }
 
 static bool add_ring(Reader *from, size_t count) {
@@ -237,13 +237,17 @@ static bool add_ring(Reader *from, size_t count) {
     i_shape_point_i64 *points = to->points + to->counts.points;
     size_t open = open_count(from, count);
     bool is_on_grid = open < count;
+    double xy[2];
     for (size_t k = 0; k < open; k++) {
-        double xy[2];
         if (k % PAUSE_POINTS == PAUSE_POINTS - 1) take_pause(from->pause);
         point_at(from, k, xy);
         if (!to_grid(xy, from->grid, points + k)) return out_of_range(from, xy, k);
         is_on_grid = is_on_grid && brought_back(points[k].x, from->grid) == xy[0] && brought_back(points[k].y, from->grid) == xy[1];
-        to->has_minus_zero = to->has_minus_zero || is_minus_zero(xy[0]) || is_minus_zero(xy[1]);
+        to->has_minus_zero = to->has_minus_zero || has_minus_zero(xy);
+    }
+    if (open < count) {
+        point_at(from, open, xy);
+        to->has_minus_zero = to->has_minus_zero || has_minus_zero(xy);
     }
     to->is_on_grid = to->is_on_grid && is_on_grid;
     to->rings[to->counts.rings++] = (Ring){points, open};

@@ -216,6 +216,22 @@ class Cleaned(GeoPackageCase):
             "SELECT table_name, last_change = 'then' FROM gpkg_contents",
             path=self.out), [(name, 0), ("clean", 1)])
 
+    def test_high_byte_first(self):
+        """It stays, but with an SRID, an open ring or a -0 at the end."""
+        points = 0, 0, 8, 0, 8, 8
+        stays, *others = (
+            blob(struct.pack(f">B{len(head)}I{len(its)}d", 0, *head, *its))
+            for head, its in (((3, 1, 4), (*points, 0, 0)),
+                              ((0x20000003, 4326, 1, 4), (*points, 0, 0)),
+                              ((3, 1, 3), points),
+                              ((3, 1, 4), (*points, 0, -0.0))))
+        self.fill(stays, *others)
+        self.run_clean()
+        same, *new = [its for *_, its in self.rows(self.out)]
+        self.assertEqual(same, stays)
+        self.assertEqual([its[40:] for its in new], io.to_wkb(polygons(
+            [[(0, 0), (8, 0), (8, 8)]])) * 3)
+
     def test_equal_features_of_a_layer(self):
         turned = blob(io.to_wkb(polygons([SQUARE[:0:-1] + SQUARE[:1]]))[0])
         self.fill(SPIKED_BLOB, FLAT_BLOB, turned, None, FLAT_BLOB, SQUARE_BLOB)

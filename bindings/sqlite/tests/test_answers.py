@@ -114,11 +114,11 @@ class AnswersTest(unittest.TestCase):
         blob = bytearray(spatialite(CLEAN))
         blob[6:38] = bytes(32)
         self.assertEqual(self.ask("simplify(?, 1)", blob), bytes(blob))
-        below = CLEAN.replace("0 0,4", "-0.0 0,4")
-        for order in "<>":
-            self.assertEqual(self.ask("simplify(?, 1)", geopackage(below, wkb_order=order)), geopackage(CLEAN))
-        self.assertEqual(self.ask("simplify(?, 1)", spatialite(below)), spatialite(CLEAN))
-        self.assertEqual(self.ask("is_clean(?, 1)", wkb(below)), 1)
+        for below in CLEAN.replace("0 0,4", "-0.0 0,4"), CLEAN.replace("4,0 0)", "4,0 -0.0)"):
+            for order in "<>":
+                self.assertEqual(self.ask("simplify(?, 1)", geopackage(below, wkb_order=order)), geopackage(CLEAN))
+            self.assertEqual(self.ask("simplify(?, 1)", spatialite(below)), spatialite(CLEAN))
+            self.assertEqual(self.ask("is_clean(?, 1)", wkb(below)), 1)
 
     def test_ewkb_in_a_geopackage(self):
         """A GeoPackage has no EWKB, so the SRID goes."""
