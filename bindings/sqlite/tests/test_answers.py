@@ -24,6 +24,9 @@ CLEANED = [
     ("canonical", "POLYGON((0 0,4 4,4 0,0 0))", 1, "POLYGON((0 0,4 0,4 4,0 0))"),
     ("canonical", "MULTIPOLYGON(((0 0,9 0,9 9,0 0),(1 1,2 1,2 2,1 1)),((0 0,9 0,9 9,0 0)),((-1 0,9 0,9 9,-1 0)))", 1,
      "MULTIPOLYGON(((-1 0,9 0,9 9,-1 0)),((0 0,9 0,9 9,0 0)),((0 0,9 0,9 9,0 0),(1 1,2 1,2 2,1 1)))"),
+    # of the same size, where the hole or the second polygon is another one
+    ("canonical", "POLYGON((0 0,9 0,9 9,0 0),(2 1,2 2,1 1,2 1))", 1, "POLYGON((0 0,9 0,9 9,0 0),(1 1,2 1,2 2,1 1))"),
+    ("canonical", "MULTIPOLYGON(((0 0,9 0,9 9,0 0)),((29 0,29 9,20 0,29 0)))", 1, "MULTIPOLYGON(((0 0,9 0,9 9,0 0)),((20 0,29 0,29 9,20 0)))"),
     # the same rings before and after, of other polygons
     ("canonical", "MULTIPOLYGON(((0 0,9 0,9 9,0 0),(0 0,9 0,9 9,0 0)),((0 0,9 0,9 9,0 0)))", 1,
      "MULTIPOLYGON(((0 0,9 0,9 9,0 0)),((0 0,9 0,9 9,0 0),(0 0,9 0,9 9,0 0)))"),
