@@ -123,10 +123,13 @@ class InterruptTest(unittest.TestCase):
         self.addCleanup(self.database.close)
         self.many = many_triangles(30000)
         self.looks = 0
+        self.ended = []
+        self.database.create_function("noted", 1, lambda digest: self.ended.append(digest) or digest)
 
     def looks_of(self, look=lambda looks: 0):
         """How often a call looks, where that looks too, and its answer."""
         self.looks = 0
+        self.ended.clear()
 
         def handle():
             self.looks += 1
@@ -134,7 +137,7 @@ class InterruptTest(unittest.TestCase):
 
         self.database.set_progress_handler(handle, 1)
         try:
-            return self.database.execute("SELECT i_shape_digest(i_shape_canonical(?, 1), 1)", (self.many,)).fetchone()
+            return self.database.execute("SELECT noted(i_shape_digest(i_shape_canonical(?, 1), 1))", (self.many,)).fetchone()
         finally:
             self.database.set_progress_handler(None, 0)
 
@@ -146,6 +149,7 @@ class InterruptTest(unittest.TestCase):
             with self.assertRaisesRegex(sqlite3.OperationalError, "interrupted"):
                 self.looks_of(lambda looks, place=place: looks == place and look())
             self.assertLess(self.looks, place + 20)
+            self.assertEqual(self.ended, [])  # SQLite itself is interrupted only behind the call
         self.assertEqual(self.looks_of(), wanted)
 
     def test_progress_handler(self):
