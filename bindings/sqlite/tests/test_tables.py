@@ -1,6 +1,7 @@
 """Indexes, checks, generated columns and triggers over the calls, and calls that are interrupted."""
 import sqlite3
 import struct
+import tempfile
 import threading
 import unittest
 
@@ -70,6 +71,25 @@ class TablesTest(unittest.TestCase):
         self.ask("INSERT INTO virtual VALUES (?), (?)", PAIR[1], wkb(SEVERAL))
         self.ask("CREATE VIEW both AS SELECT i_shape_area_two(stored.geom, 1) FROM stored JOIN virtual USING (digest)")
         self.assertEqual(self.ask("SELECT * FROM both"), [(32,)])
+
+    def test_without_the_extension(self):
+        """Other programs read and empty a table over a call, but insert and change nothing, nor vacuum the file."""
+        index = "; CREATE UNIQUE INDEX once ON parcels (i_shape_digest(geom, 1))"
+        for made in f"(geom BLOB){index}", "(geom BLOB, digest BLOB AS (i_shape_digest(geom, 1)) STORED)", "(geom BLOB CHECK (i_shape_is_clean(geom, 1)))":
+            with self.subTest(made=made), tempfile.NamedTemporaryFile() as file:
+                database = connect(path=file.name)
+                database.executescript(f"CREATE TABLE parcels {made}; INSERT INTO parcels (geom) VALUES (x'{PAIR[1].hex()}')")
+                database.close()
+                database = sqlite3.connect(file.name, isolation_level=None)
+                for words in "INSERT INTO parcels (geom) VALUES (NULL)", "UPDATE parcels SET geom = NULL", "VACUUM", "PRAGMA integrity_check":
+                    if words.startswith("PRAGMA") and "STORED" in made:
+                        self.assertEqual(database.execute(words).fetchall(), [("ok",)])
+                    else:
+                        with self.assertRaisesRegex(sqlite3.OperationalError, "function: i_shape"):
+                            database.execute(words)
+                self.assertEqual(database.execute("SELECT geom FROM parcels").fetchall(), [(PAIR[1],)])
+                self.assertEqual(database.execute("DELETE FROM parcels").rowcount, 1)
+                database.close()
 
     def test_group(self):
         self.ask("CREATE TABLE shapes (geom BLOB)")
