@@ -28,7 +28,7 @@ VALUES = [
     (wkb("POINT(1 2)"), f"{POLYGONS} Point"), (wkb("LINESTRING(0 0,1 1)"), f"{POLYGONS} LineString"), (wkb("MULTIPOINT((0 0))"), f"{POLYGONS} MultiPoint"),
     (typed(7), f"{POLYGONS} GeometryCollection"), (COLLECTION * 100000 + TRIANGLE, f"{POLYGONS} GeometryCollection"), (typed(10), f"{POLYGONS} CurvePolygon"),
     (typed(17, ">"), f"{POLYGONS} Triangle"), (typed(5000), f"{POLYGONS} geometry of an unknown type"), (typed(1003), Z_OR_M), (typed(2006), Z_OR_M),
-    (typed(3003), Z_OR_M), (typed(0x80000003), Z_OR_M), (typed(0x40000006, ">"), Z_OR_M),
+    (typed(3003), Z_OR_M), (typed(0x80000003), Z_OR_M), (typed(0x40000006, ">"), Z_OR_M), (typed(6)[:5] + b"\1\0\0\0" + typed(1003), Z_OR_M),
     (bytes.fromhex("0106000020e6100000010000000103000020110f000000000000"), "a part of a MultiPolygon has another SRID"),
     (b"GP", "not a geometry: its GeoPackage header is invalid"), (b"GP\1\1" + bytes(4) + TRIANGLE, "not a geometry: its GeoPackage header is invalid"),
     (b"GP\0\x0b" + bytes(99), "not a geometry: its GeoPackage header is invalid"), (b"GP\0\3" + bytes(35), "not a geometry: its GeoPackage header is invalid"),
@@ -99,10 +99,13 @@ class RefusedTest(unittest.TestCase):
         ]:
             self.assertEqual(self.refusal("winding(?, ?, 1)", TRIANGLE, point), f"i_shape: {wanted}")
         self.assertEqual(self.refusal("winding(?, ?, 0)", TRIANGLE, wkb("POINT(1 1)")), f"i_shape: step is 0, {A_STEP}")
+        for blob in geopackage, spatialite:
+            self.assertEqual(self.refusal("winding(?, ?, 1)", blob(CLEAN, 5), blob("POINT(1 1)", 7)),
+                             "i_shape: the SRID of the polygon is 5, and that of the point 7")
 
     def test_area(self):
-        for sign in "", "-":
-            far = f"POLYGON((0 0,{sign}5000000000 0,5000000000 5000000000,0 0))"
+        for outer in "", "(0 0,1 0,2 0,0 0),":
+            far = f"POLYGON({outer}(0 0,5000000000 0,5000000000 5000000000,0 0))"
             self.assertEqual(self.refusal("area_two(?, 1)", wkb(far)), "i_shape: twice the area needs more than 64 bits, which an integer has")
 
     def test_counts(self):

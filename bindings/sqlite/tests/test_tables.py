@@ -101,6 +101,8 @@ class TablesTest(unittest.TestCase):
         with self.assertRaisesRegex(sqlite3.OperationalError, "no such function: ST_IsEmpty"):
             self.ask("SELECT ST_IsEmpty(NULL)")
         self.database = connect("sqlite3_modishapegpkg_init")
+        flags = self.ask("SELECT flags & 0x200800 FROM pragma_function_list WHERE name LIKE 'st\\_%' ESCAPE '\\'")
+        self.assertEqual(flags, [(0x200800,)] * 5)  # deterministic and innocuous
         self.database.executescript(LAYER)
         for text in ("POLYGON((0 0,2 0,9 0,9 9,9 12,9 9,0 0))", "MULTIPOLYGON(((1 1,3 1,5 1,1 1)))", "POLYGON((0 0,0 7,0 9,5 5,0 0))"):
             self.ask("INSERT INTO layer (geom) VALUES (?)", geopackage(text, sides=0))
