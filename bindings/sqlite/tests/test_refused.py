@@ -104,9 +104,8 @@ class RefusedTest(unittest.TestCase):
                              "i_shape: the SRID of the polygon is 5, and that of the point 7")
 
     def test_area(self):
-        for outer in "", "(0 0,1 0,2 0,0 0),":
-            far = f"POLYGON({outer}(0 0,5000000000 0,5000000000 5000000000,0 0))"
-            self.assertEqual(self.refusal("area_two(?, 1)", wkb(far)), "i_shape: twice the area needs more than 64 bits, which an integer has")
+        for rings in "(0 0,5e9 0,5e9 5e9,0 0)", "(0 0,-5e9 0,5e9 5e9,0 0)", "(0 0,1 0,2 0,0 0),(0 0,5e9 0,5e9 5e9,0 0)":
+            self.assertEqual(self.refusal("area_two(?, 1)", wkb(f"POLYGON({rings})")), "i_shape: twice the area needs more than 64 bits, which an integer has")
 
     def test_counts(self):
         for call in "simplify(?)", "simplify(?, 1, 1)", "key(?, 1, 1, 1)", "winding(?, 1)", "version(?)":
