@@ -387,6 +387,7 @@ test_python() {
     go_to_empty
     "$python" -m venv --system-site-packages "$work/from_source" > "$work/log" 2>&1 || cat "$work/log"
     timed 'python: built and installed' "${pip[@]}" "$archive" > "$work/log" 2>&1 || cat "$work/log"
+    check 'python: what is installed beside it' ls "$work"/from_source/lib/python3*/site-packages/i_shape-"$version".dist-info/{LICENSE,NOTICE}
     timed 'python: what its page shows' check 'python: what its page shows' shows_page "$own"
     tar -xzf "$archive" && cd ./*/ || { count 1 'python: unpacked' && return 1; }
     check 'python: each erased file is a module' are_modules $(find rust/src/erased -name '*.rs')

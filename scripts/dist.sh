@@ -157,7 +157,7 @@ pack_c() {
 pack_python() {
     local its=$top/bindings/python name=i_shape-$version
     mkdir "$work/sdist"
-    cp -R "$its"/{src,README.md,pyproject.toml,setup.py,MANIFEST.in} "$top/LICENSE" "$top/include/i_shape.h" "$work/sdist"
+    cp -R "$its"/{src,README.md,pyproject.toml,setup.py,MANIFEST.in} "$top"/{LICENSE,NOTICE,include/i_shape.h} "$work/sdist"
     find "$work/sdist" -name __pycache__ -prune -exec rm -rf {} +
     add_c_library "$work/sdist/rust"
     (cd "$work/sdist" && "${PYTHON:-/usr/bin/python3}" -c 'from setuptools.build_meta import build_sdist; build_sdist("out")' > "$work/log" 2>&1) || { cat "$work/log" >&2 && exit 1; }
