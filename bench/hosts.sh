@@ -19,6 +19,7 @@ end() {
 # The words from $2 on, on the host $1.
 on() { exec ip netns exec "$net-$1" "${PYTHON:-/usr/bin/python3}" "${@:2}"; }
 
+"${PYTHON:-/usr/bin/python3}" -c 'import distributed' # without it the tests are skipped
 ip link add "$net" type bridge && trap end EXIT && ip link set "$net" up
 for k in 1 2 3; do
     ip netns add "$net-$k"
