@@ -60,9 +60,12 @@ void put_float(double value, char text[FLOAT_SIZE]) {
         snprintf(text, FLOAT_SIZE, "%.*g", digits, value);
         if (strtod(text, NULL) == value) break;
     }
-    /* The host's locale may have another point. */
-    char *comma = strchr(text, ',');
-    if (comma) *comma = '.';
+    /* What is between the digits is the point of the host's locale, of a byte or more. */
+    char *point = text + strspn(text, "-0123456789");
+    if (*point == 0 || *point == 'e') return;
+    char *digits = strpbrk(point, "0123456789");
+    *point = '.';
+    memmove(point + 1, digits, strlen(digits) + 1);
 }
 
 static const char *name_of_type(uint32_t type) {

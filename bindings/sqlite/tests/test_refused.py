@@ -1,7 +1,13 @@
 """What each call refuses, and hostile values."""
+import locale
+import os
+import shutil
 import sqlite3
 import struct
+import subprocess
+import tempfile
 import unittest
+from unittest import mock
 
 from shapes import CLEAN, FORMS, SEVERAL, SQUARE, connect, geopackage, spatialite, wkb
 
@@ -82,6 +88,17 @@ class RefusedTest(unittest.TestCase):
         far = "MULTIPOLYGON(EMPTY,((0 0,4 0,4 4,0 0)),((0 0,4 0,4 4,0 0),(1 1,2 1,2 1e300,1 1)))"
         self.assertEqual(self.refusal("simplify(?, 1)", wkb(far)), "i_shape: polygon 3, ring 2, point 3: y is 1e+300, 2^49 steps or more from 0")
         self.assertEqual(self.database.execute("SELECT length(i_shape_key(?, 1))", (wkb("POLYGON((0 0,562949953421311 0,4 4,0 0))"),)).fetchone(), (64,))
+
+    @unittest.skipUnless(shutil.which("localedef") and os.path.exists("/usr/share/i18n/locales/ps_AF"), "there is no localedef, or no locale for it")
+    def test_locale(self):
+        """A coordinate has a point also where the program's locale has a comma, or a letter of two bytes."""
+        self.addCleanup(locale.setlocale, locale.LC_NUMERIC, "C")
+        for name in "de_DE", "ps_AF":
+            with self.subTest(name=name), tempfile.TemporaryDirectory() as folder, mock.patch.dict(os.environ, LOCPATH=folder):
+                subprocess.run(["localedef", "-i", name, "-f", "UTF-8", os.path.join(folder, f"{name}.UTF-8")], check=True)
+                locale.setlocale(locale.LC_NUMERIC, f"{name}.UTF-8")
+                self.assertNotEqual(locale.localeconv()["decimal_point"], ".")
+                self.assertIn("y is -1234567.1234567892, 2^49", self.refusal("key(?, 1e-300)", wkb("POLYGON((0 0,0 -1234567.1234567891,4 4,0 0))")))
 
     def test_oriented(self):
         for value, wanted in (2, "2"), (-1, "-1"), (1.0, "a float"), ("1", "a text"), (b"", "a blob"):
