@@ -4,8 +4,8 @@ config=${PG_CONFIG:-/usr/lib/postgresql/15/bin/pg_config}
 
 # Whether a server and its headers are there for the tests $1.
 has_postgres() {
-    needs "$1" 'there is no server of PostgreSQL 15 with its headers' [ -e "$("$config" --includedir-server 2> /dev/null)/postgres.h" ] &&
-        needs "$1" 'there is no PostGIS for PostgreSQL 15' [ -e "$("$config" --sharedir)/extension/postgis.control" ]
+    needs "$1" "there is no server of PostgreSQL with its headers by $config" [ -e "$("$config" --includedir-server 2> /dev/null)/postgres.h" ] &&
+        needs "$1" "there is no PostGIS for the server of $config" [ -e "$("$config" --sharedir)/extension/postgis.control" ]
 }
 
 # Runs what follows as whom the server runs as, which may not be root.
@@ -24,12 +24,14 @@ build_postgres() {
 
 # The trees of a server find each other wherever they lie, so a copy writes nothing into that which is installed.
 run_server() {
-    local own=$work/own name
+    local own=$work/own name number
     for name in bindir libdir sharedir includedir-server; do
         mkdir -p "$own/$(realpath -m --relative-to=/usr "$("$config" "--$name")")"
     done
-    cp -a /usr/lib/postgresql/15 "$own/lib/postgresql/" && cp -a /usr/share/postgresql/15 "$own/share/postgresql/" && cp -a /usr/include/postgresql "$own/include/" || return
-    bin=$own/lib/postgresql/15/bin
+    number=$(basename "$("$config" --sharedir)")
+    cp -a "/usr/lib/postgresql/$number" "$own/lib/postgresql/" && cp -a "/usr/share/postgresql/$number" "$own/share/postgresql/" &&
+        cp -a /usr/include/postgresql "$own/include/" || return
+    bin=$own/lib/postgresql/$number/bin
     mkdir "$work/data" "$work/socket" && { [ "$(id -u)" != 0 ] || chown nobody "$work/data" "$work/socket"; } &&
         as_server "$bin/initdb" -D "$work/data" -A trust -U postgres --locale=C.UTF-8 --no-sync || return
     printf '%s\n' "listen_addresses = ''" "unix_socket_directories = '$work/socket'" 'fsync = off' 'jit = off' >> "$work/data/postgresql.conf"

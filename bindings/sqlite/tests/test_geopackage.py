@@ -3,6 +3,7 @@ import importlib.util
 import json
 import os
 import random
+import re
 import shutil
 import sqlite3
 import subprocess
@@ -24,8 +25,7 @@ INSERT INTO gpkg_geometry_columns VALUES ('parcels', 'geom', 'GEOMETRY', 4326);
 def random_ring(numbers):
     """On few places, so that vertices are collinear, and rings have spikes and collapse; some not on the grid, or with a zero below zero."""
     points = [(numbers.randrange(-9, 9) * numbers.choice((1, 1, 1, 0.3, -0.0)), numbers.randrange(-9, 9) / 2) for _ in range(numbers.randrange(3, 9))]
-    x, y = points[0]
-    return [*points, (x or numbers.choice((0.0, -0.0)), y)]
+    return [*points, points[0]]
 
 
 def random_text(numbers):
@@ -36,7 +36,8 @@ def random_text(numbers):
 
 def random_blobs(count):
     numbers = random.Random(70)
-    texts = [CLEAN, CLEAN_SEVERAL, *(random_text(numbers) for _ in range(count))]
+    # the last point of a ring with either zero
+    texts = [CLEAN, CLEAN_SEVERAL, *(re.sub(r",-?0(\.0)? (?=[^,()]+\))", numbers.choice((",0 ", ",-0.0 ")), random_text(numbers)) for _ in range(count))]
     with_srids = [geopackage(CLEAN)[:40] + wkb(CLEAN, order, 4326) for order in "<>"]
     return with_srids + [geopackage(text, 4326, numbers.choice((0, 2, 4)), *(numbers.choice("<<>") for _ in range(2))) for text in texts]
 
