@@ -163,26 +163,8 @@ unsafe impl GlobalAlloc for Host {
     }
 
     unsafe fn dealloc(&self, at: *mut u8, _layout: Layout) {
-        // SAFETY: `alloc` or `realloc` has returned it.
-        self.with(|memory| unsafe { memory.give(at) });
-    }
-
-    unsafe fn realloc(&self, at: *mut u8, layout: Layout, size: usize) -> *mut u8 {
         // SAFETY: `alloc` has returned it.
-        let order = unsafe { (*Block::of(at)).order };
-        if size <= (1 << order) - size_of::<Block>() {
-            return at;
-        }
-        self.with(|memory| {
-            let to = memory.take(size);
-            if !to.is_null() {
-                // SAFETY: both blocks have so many bytes, and are apart.
-                unsafe { ptr::copy_nonoverlapping(at, to, layout.size().min(size)) };
-                // SAFETY: `alloc` has returned it, and it isn't used afterwards.
-                unsafe { memory.give(at) };
-            }
-            to
-        })
+        self.with(|memory| unsafe { memory.give(at) });
     }
 }
 
