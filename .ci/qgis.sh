@@ -1,6 +1,6 @@
 #!/usr/bin/env bash
-# Packs the plugin of QGIS and the wheel of the Python package, installs both into folders of their own, and tests the algorithms by qgis_process beside the
-# command, on GeoPackages and a shapefile; and, where they are there, what SQLite and PostGIS make of one of these layers.
+# Packs the plugin of QGIS and the wheel of the Python package, installs both into folders of their own, and tests the algorithms: by PyQGIS over
+# layers in memory, by qgis_process beside the command, on GeoPackages and a shapefile, and where they are there beside SQLite and PostGIS.
 . "$(dirname "$0")/part.sh" && . .ci/server.sh || exit 1
 library=${I_SHAPE_C_DIR:-$PWD/bindings/c/out}
 version=$(scripts/version.sh)
