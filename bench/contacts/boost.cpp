@@ -5,6 +5,7 @@
 #include <boost/geometry/geometries/multi_polygon.hpp>
 #include <boost/geometry/geometries/point_xy.hpp>
 #include <boost/geometry/geometries/polygon.hpp>
+#include <boost/version.hpp>
 #include <memory>
 
 namespace {
@@ -18,13 +19,13 @@ void close_into(Polygon::ring_type &to, const Ring &ring) {
     to.emplace_back(ring[0].x, ring[0].y);
 }
 
-MultiPolygon polygons_of(const Drawing &drawing) {
+MultiPolygon polygons_of(const std::vector<Ring> &rings, std::size_t rings_of_polygon) {
     MultiPolygon polygons;
-    for (std::size_t k = 0; k < drawing.rings.size(); k++) {
-        if (k % drawing.rings_of_polygon == 0) {
-            close_into(polygons.emplace_back().outer(), drawing.rings[k]);
+    for (std::size_t k = 0; k < rings.size(); k++) {
+        if (k % rings_of_polygon == 0) {
+            close_into(polygons.emplace_back().outer(), rings[k]);
         } else {
-            close_into(polygons.back().inners().emplace_back(), drawing.rings[k]);
+            close_into(polygons.back().inners().emplace_back(), rings[k]);
         }
     }
     geometry::correct(polygons);
@@ -32,9 +33,15 @@ MultiPolygon polygons_of(const Drawing &drawing) {
 }
 
 template <class Test> Call count(const Drawing &drawing, Test is_free) {
-    auto polygons = std::make_shared<MultiPolygon>(polygons_of(drawing));
+    auto polygons = std::make_shared<MultiPolygon>(polygons_of(drawing.rings, drawing.rings_of_polygon));
     if (drawing.question == Question::of_rings) return [polygons, is_free] { return std::size_t(is_free(*polygons)); };
     return [polygons, is_free] { return std::size_t(std::count_if(polygons->begin(), polygons->end(), is_free)); };
+}
+
+std::string fault(const std::vector<Ring> &rings) {
+    geometry::validity_failure_type failure;
+    bool valid = geometry::is_valid(polygons_of(rings, rings.size())[0], failure);
+    return valid ? "" : geometry::validity_failure_type_message(failure);
 }
 
 } // namespace
@@ -45,3 +52,5 @@ std::vector<Column> boost_columns() {
     return {{"Boost intersects", [=](const Drawing &drawing) { return count(drawing, is_free); }},
             {"Boost is_valid", [=](const Drawing &drawing) { return count(drawing, is_valid); }}};
 }
+
+Notion boost_notion() { return {"Boost.Geometry " BOOST_LIB_VERSION, fault}; }

@@ -38,3 +38,15 @@ std::vector<Column> our_columns();
 std::vector<Column> geos_columns();
 std::vector<Column> boost_columns();
 std::vector<Column> cgal_columns();
+
+// A library's notion of a valid polygon, which is an outer ring and its holes: why one isn't valid, or nothing if it is. CGAL's is of one ring alone.
+struct Notion {
+    std::string name;
+    std::function<std::string(const std::vector<Ring> &)> fault;
+};
+
+Notion our_notion();
+Notion geos_notion();
+Notion touching_geos_notion(); // a ring may touch itself and so form a hole
+Notion boost_notion();
+Notion cgal_notion();

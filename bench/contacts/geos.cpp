@@ -65,6 +65,16 @@ template <Test test> Call count(std::vector<Geometry> geometries) {
     };
 }
 
+template <int flags> std::string fault(const std::vector<Ring> &rings) {
+    Geometry given = owned(polygon(rings.data(), rings.size()));
+    char *told = nullptr;
+    char answer = GEOSisValidDetail(given.get(), flags, &told, nullptr);
+    if (answer == 2) throw std::runtime_error("GEOS returned an exception");
+    std::string fault = answer == 0 ? told : "";
+    GEOSFree(told);
+    return fault;
+}
+
 } // namespace
 
 std::vector<Column> geos_columns() {
@@ -72,3 +82,10 @@ std::vector<Column> geos_columns() {
     return {{"GEOS isSimple", [](const Drawing &drawing) { return count<GEOSisSimple>(lines_of(drawing)); }},
             {"GEOS isValid", [](const Drawing &drawing) { return count<GEOSisValid>(polygons_of(drawing)); }}};
 }
+
+Notion geos_notion() {
+    initGEOS(quiet, quiet);
+    return {std::string("GEOS ") + GEOSversion(), fault<0>};
+}
+
+Notion touching_geos_notion() { return {geos_notion().name + ", self-touching rings", fault<GEOSVALID_ALLOW_SELFTOUCHING_RING_FORMING_HOLE>}; }

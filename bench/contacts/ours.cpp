@@ -28,8 +28,8 @@ template <class Bits> struct Given {
     std::vector<typename Bits::Point> points;
     std::vector<std::size_t> offsets{0};
 
-    explicit Given(const Drawing &drawing) {
-        for (const Ring &ring : drawing.rings) {
+    explicit Given(const std::vector<Ring> &rings) {
+        for (const Ring &ring : rings) {
             for (auto [x, y] : ring) points.push_back({x, y});
             offsets.push_back(points.size());
         }
@@ -63,19 +63,28 @@ template <class Bits> std::size_t count_simple_polygons(const Given<Bits> &given
 }
 
 template <class Bits> Call first_contact(const Drawing &drawing) {
-    Given<Bits> given(drawing);
+    Given<Bits> given(drawing.rings);
     if (drawing.question == Question::of_rings) return [given] { return are_rings_free(given); };
     return [given] { return count_free(given); };
 }
 
 template <class Bits> Call is_simple_polygon(const Drawing &drawing) {
-    Given<Bits> given(drawing);
+    Given<Bits> given(drawing.rings);
     switch (drawing.question) {
     case Question::of_ring: return [given] { return checked(Bits::is_simple_polygon(given.points.data(), given.points.size())); };
     case Question::of_each:
         return [given, answers = std::vector<std::uint8_t>(drawing.rings.size())]() mutable { return count_simple_polygons(given, answers); };
     default: return {};
     }
+}
+
+std::string fault(const std::vector<Ring> &polygon) {
+    static const char *const kinds[] = {"", "too few points", "contact", "hole outside", "hole within"};
+    auto [points, offsets] = Given<Bits32>(polygon);
+    std::size_t shapes[] = {0, polygon.size()};
+    i_shape_fault fault;
+    checked(i_shape_validity_shapes_i32(points.data(), points.size(), offsets.data(), offsets.size(), shapes, 2, &fault, 1));
+    return kinds[fault.kind];
 }
 
 } // namespace
@@ -86,3 +95,5 @@ std::vector<Column> our_columns() {
             {"first_contact i64", first_contact<Bits64>},
             {"is_simple_polygon i64", is_simple_polygon<Bits64>}};
 }
+
+Notion our_notion() { return {"i_shape", fault}; }

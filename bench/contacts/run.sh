@@ -4,6 +4,9 @@
 # nanoseconds of the processor for each edge. --check compares the answers alone; --only picks the families in whose names WORD is; --largest takes drawings
 # up to N edges (1,000,000 if it isn't given).
 #
+# bench/contacts/run.sh --notions
+# Counts instead of which small polygons the libraries say that they are valid, and why they differ.
+#
 # A library that isn't at hand is left out. Debian has them in libgeos-dev, libboost-dev and libcgal-dev, and the shorelines in gmt-gshhg-full, which netcdf-bin
 # and python3-numpy read. Ours is that of `make c`, or of the folder I_SHAPE_C_DIR. What is built lies in ${BENCH_DIR:-${TMPDIR:-/tmp}/i_shape_contacts}, where
 # the shorelines stay too. docs/COMPARISON.md tells what was seen.
@@ -34,9 +37,11 @@ compile_other geos -lgeos_c
 compile_other boost
 compile_other cgal -lgmp -lmpfr
 compile ours
-compile families
-compile contacts ${defines[@]+"${defines[@]}"}
-"${CXX:-c++}" "${objects[@]}" "$library/libi_shape.a" ${links[@]+"${links[@]}"} -o "$work/contacts"
+program=contacts
+if [ "${1:-}" = --notions ]; then program=notions; else compile families; fi
+compile "$program" ${defines[@]+"${defines[@]}"}
+"${CXX:-c++}" "${objects[@]}" "$library/libi_shape.a" ${links[@]+"${links[@]}"} -o "$work/$program"
+[ "$program" = contacts ] || exec "$work/notions"
 
 if [ ! -e "$work/shorelines" ]; then
     I_SHAPE_C_DIR=$library PYTHONPATH=$top/bindings/python/src PYTHONDONTWRITEBYTECODE=1 /usr/bin/python3 "$bench/shorelines.py" 10 1000 10000 100000 1000000 \
