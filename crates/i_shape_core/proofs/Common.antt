@@ -1,4 +1,4 @@
--- The words of contours that most proofs name.
+-- The definitions that most proofs name.
 pub use Rattle.i_shape_core.specs.Point.{Point, IsBack, IsZeroTurn, vector, origin, cross, dot, cross_of}
 pub use Rattle.i_shape_core.specs.IntPoint.{IsSafe, IsSafeCoordinate, point_of, contour_of, answered}
 pub use Rattle.i_shape_core.specs.declared.point.IntPoint.{IntPoint}
@@ -8,4 +8,4 @@ pub use Rattle.i_shape_core.specs.Winding.{winding_of_edge, winding, level, IsWi
 pub use Rattle.i_shape_core.specs.Convex.{NoSpikes, is_same, last_of}
 pub use Rattle.i_shape_core.specs.Canonical.{CanonicalAnswer, UnorientedAnswer, IsCanonical, KeptEitherWay, IsLeast, IsLesserWay, IsBefore, IsAtMost, started_at, by_rotation, by_removal, by_insertion, Joined, alone, link, IsLink, CanonicalJoined, IsUnoriented, IsKeptBackwards, IsKeptEitherWay, JoinedEitherWay}
 pub use Rattle.i_shape_core.specs.Cleaners.{SimpleAnswer, DespikeAnswer, SpikelessAnswer, IsDespikedAlready, EachEndCollapses, KeptAnswer, IsKept, IsFlat, VisitsAnswer}
-pub use Rattle.i_shape_core.specs.Walks.{WalkAnswer, Agree, AreAfter, IsBend, bend_of_both, Finds, Falls, IsRingState, from_contour_first, point_round, Precedes, IsOrder, IsFirst, IsStacked, points_left, IsWalked, stacked_point, IsRingWalk, LeadKept, LeadRemoved, RisingPlaces, PlacedRing, ring_of_all, PassesAtPlace, IsSettled}
+pub use Rattle.i_shape_core.specs.Steps.Walks.{WalkAnswer, Agree, AreAfter, IsBend, bend_of_both, Finds, Falls, IsRingState, from_contour_first, point_round, Precedes, IsOrder, IsFirst, IsStacked, points_left, IsWalked, stacked_point, IsRingWalk, LeadKept, LeadRemoved, RisingPlaces, PlacedRing, ring_of_all, PassesAtPlace, IsSettled}

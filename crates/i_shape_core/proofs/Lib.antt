@@ -1,26 +1,26 @@
--- the words of contours that most proofs name
+-- the definitions that most proofs name
 pub mod Common
 -- numbers
-pub mod arithmetic
+pub mod Arithmetic
 -- points of the plane, and contours of the program's points
-pub mod plane
--- lists: end to end, mapped, what a loop has read, sublists
-pub mod lists
+pub mod Plane
+-- lists: concatenated, mapped, what a loop has read, sublists
+pub mod Lists
 -- removals from a contour: steps, ends, rotations, both directions
-pub mod removal
+pub mod Removal
 -- sums over edges: area, containment, winding numbers
-pub mod measure
+pub mod Sums
 -- contours that are moved by an affine map
-pub mod moved
+pub mod Moved
 -- convexity, and the walk that tests it
-pub mod convex
+pub mod Convex
 -- the walks of the cleaners and of the tests
-pub mod walks
+pub mod Walks
 -- the least rotation, and the search for it
-pub mod least_rotation
+pub mod LeastRotation
 -- canonical and unoriented forms
-pub mod forms
+pub mod Forms
 -- what the answers of cleaners keep, and what they write
-pub mod answers
--- the definitions at contours that are written out
-pub mod examples
+pub mod CleanerAnswers
+-- the definitions at literal contours
+pub mod Examples

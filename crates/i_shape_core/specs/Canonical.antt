@@ -11,13 +11,13 @@ use Rattle.i_shape_core.specs.Moves.{moved, scaling}
 abbrev pub IsBefore : Point → Point → Type 0
 IsBefore p q = (p.x <ℤ q.x) ⊎ ((p.x ≡ q.x) × (p.y <ℤ q.y))
 
--- c equals d or comes before it, point by point
+-- c equals d or precedes it, comparing point by point
 abbrev pub IsAtMost : List Point → List Point → Type 0
 IsAtMost [] d = Unit {0}
 IsAtMost (p ∷ c) [] = ⊥
 IsAtMost (p ∷ c) (q ∷ d) = IsBefore p q ⊎ ((p ≡ q) × IsAtMost c d)
 
--- l is the first of the rotations of c
+-- l is the least of the rotations of c
 pub record IsLeast (c l : List Point) : Type 0 where
   pub rotation : Rotation c l
   pub first : (d : List Point) → Rotation c d → IsAtMost l d
@@ -48,7 +48,7 @@ pub data Joined (P : Test) : List Point → List Point → Type 0 where
   alone : {c : List Point} → 3 ≤ length c → Joined P c c
   link : {c d e : List Point} → 3 ≤ length c → IsLink P c d → Joined P d e → Joined P c e
 
--- if an end of c and an end of d have not collapsed, their least rotations are equal exactly where c and d are joined
+-- if an end of c and an end of d haven't collapsed, their least rotations are equal exactly if c and d are joined
 abbrev pub CanonicalJoined : List Point → List Point → Type 0
 CanonicalJoined c d = (e f l m : List Point) → End IsZeroTurn c e → 3 ≤ length e → End IsZeroTurn d f → 3 ≤ length f
     → IsLeast e l → IsLeast f m → (l ≡ m) ↔ Joined IsZeroTurn c d
@@ -82,11 +82,11 @@ pub record IsKeptBackwards (c e : List Point) : Type 0 where
   pub between : (n : ℤ) (p : Point) → winding (moved (scaling n) e) p ≡ neg_ℤ (winding (moved (scaling n) c) p)
   pub winding : (p : Point) → winding e p ≡ neg_ℤ (winding c p)
 
--- e keeps what c has, or keeps it with the opposite sign
+-- e keeps the measures of c, or all of them with the opposite sign
 abbrev pub IsKeptEitherWay : List Point → List Point → Type 0
 IsKeptEitherWay c e = IsKept c e ⊎ IsKeptBackwards c e
 
--- what the unoriented form keeps of c: if each end collapses, c has no area and no winding number other than 0
+-- what the unoriented form keeps of c; if each end collapses, c has area 0 and winding numbers 0
 abbrev pub KeptEitherWay : List Point → Option (List Point) → Type 0
 KeptEitherWay c None = IsFlat c
 KeptEitherWay c (Some e) = IsKeptEitherWay c e

@@ -39,7 +39,7 @@ pub record IsFlat (c : List Point) : Type 0 where
   pub between : (n : ℤ) (p : Point) → winding (moved (scaling n) c) p ≡ pos 0
   pub winding : (p : Point) → winding c p ≡ pos 0
 
--- what each result of a cleaner keeps
+-- what a cleaner's result keeps
 abbrev pub KeptAnswer : List Point → Option (List Point) → Type 0
 KeptAnswer c None = IsFlat c
 KeptAnswer c (Some e) = IsKept c e
@@ -49,13 +49,13 @@ pub record IsVisited (n fewest visits : ℕ) : Type 0 where
   pub least : fewest ≤ visits
   pub most : visits ≤ 3 * n
 
--- how many vertices a cleaner visits of a contour of n points: from n to 3n, or from n - 2 to 3n if it collapses
+-- a cleaner visits from n to 3n vertices of a contour of n points, or from n - 2 to 3n if it collapses
 abbrev pub VisitsAnswer : List Point → Option (List Point) → ℕ → Type 0
 VisitsAnswer c None visits = IsVisited (length c) (length c - 2) visits
 VisitsAnswer c (Some e) visits = IsVisited (length c) (length c) visits
 
--- d is what is left of c once points at which the path turns back or stands still are removed until there is none; d
--- has no spikes, no end of c has collapsed, and the ends of d are those of c
+-- d is what is left of c once back vertices are removed until there is none; d has no spikes, no end of c has
+-- collapsed, and the ends of d are those of c
 pub record IsDespiked (c d : List Point) : Type 0 where
   pub ended : End IsBack c d
   pub enough : 3 ≤ length d
@@ -63,7 +63,7 @@ pub record IsDespiked (c d : List Point) : Type 0 where
   pub uncollapsed : (e : List Point) → End IsZeroTurn c e → 3 ≤ length e
   pub ends : (e f : List Point) → End IsZeroTurn c e → End IsZeroTurn d f → Rotation e f
 
--- despiking leaves the contour as it is
+-- despiking leaves the contour unchanged
 abbrev pub IsDespikedAlready : List Point → Type 0
 IsDespikedAlready c = IsDespiked c c
 
@@ -72,7 +72,7 @@ abbrev pub SpikelessAnswer : List Point → Option (List Point) → Type 0
 SpikelessAnswer c None = EachEndCollapses c
 SpikelessAnswer c (Some d) = IsDespiked c d
 
--- the result of removing spikes, if a contour without spikes is left as it is
+-- the result of removing spikes that leaves a contour without spikes unchanged
 pub record DespikeAnswer (c : List Point) (r : Option (List Point)) : Type 0 where
   pub clean : NoSpikes c → r ≡ Some c
   pub cleaned : (NoSpikes c → ⊥) → SpikelessAnswer c r

@@ -15,7 +15,7 @@ place_before n k = (k + (n - 1)) % n
 abbrev pub place_after : ℕ → ℕ → ℕ
 place_after n k = (k + 1) % n
 
--- a test of a point between two others: the one before it, itself and the one after it
+-- a test of a point between the one before it and the one after it
 abbrev pub Test : Type 1
 Test = Point → Point → Point → Type 0
 
@@ -62,8 +62,8 @@ pub record IsSimple (c : List Point) : Type 0 where
   pub enough : 3 ≤ length c
   pub none : (k : ℕ) → IsRemovable IsZeroTurn c k → ⊥
 
--- d is a sublist of c: only the empty list is one of the empty list; those of a list that starts with a are those of
--- its rest, with or without a in front
+-- d is a sublist of c: the empty list's only sublist is itself; those of a list that starts with a are those of its
+-- rest, with or without a in front
 abbrev pub Sublist : {A : Type 0} → List A → List A → Type 0
 Sublist {A} [] d = d ≡ []
 Sublist {A} (a ∷ c) d = Sublist c d ⊎ ((e : List A) × (d ≡ a ∷ e) × Sublist c e)

@@ -7,7 +7,7 @@ pub record Edge : Type 0 where
   pub start : Point
   pub end : Point
 
--- the edges of the path that leads from a over the points to z
+-- the edges of the path from a over the points to z
 abbrev pub edges_between : Point → List Point → Point → List Edge
 edges_between a [] z = record { start = a; end = z } ∷ []
 edges_between a (b ∷ bs) z = record { start = a; end = b } ∷ edges_between b bs z
@@ -30,11 +30,11 @@ area_of_edge e = e.start.x *ℤ e.end.y -ℤ e.start.y *ℤ e.end.x
 unfoldable pub shoelace : List Point → ℤ
 shoelace c = sum_of area_of_edge (edges c)
 
--- p lies below the point
+-- whether a is above p
 abbrev pub is_above : Point → Point → Bool
 is_above p a = int_lt p.y a.y
 
--- whether exactly one end of the edge lies above p, and the edge passes the height of p strictly to the right of p
+-- whether exactly one end of the edge is above p, and the edge passes the height of p strictly to the right of p
 unfoldable pub is_right : Point → Edge → Bool
 is_right p e = cond (is_above p e.start)
     (cond (is_above p e.end) false (int_lt (cross e.end p e.start) (pos 0)))

@@ -1,11 +1,10 @@
--- The fill rules of overlays: whether a point is filled, by the sum of the winding numbers of a shape's contours about
--- it.
+-- Fill rules: whether a point is filled, by the sum of the winding numbers of a shape's contours about it.
 use Rattle.std.specs.Prelude.{◌≢◌, ◌<ℤ◌, ℤ, pos}
 use Rattle.i_shape_core.specs.Winding.{IsOdd}
-use Rattle.i_shape_core.specs.declared.fill_rule.FillRule.{FillRule}
-use Rattle.i_shape_core.specs.declared.fill_rule.FillRule.TheVariants.{EvenOdd, NonZero, Positive, Negative}
+use Rattle.i_shape_core.specs.declared.measure.fill_rule.FillRule.{FillRule}
+use Rattle.i_shape_core.specs.declared.measure.fill_rule.FillRule.TheVariants.{EvenOdd, NonZero, Positive, Negative}
 
--- whether a rule fills a point with winding number z
+-- the rule fills a point with winding number z
 abbrev pub IsFilled : FillRule → ℤ → Type 0
 IsFilled EvenOdd z = IsOdd z
 IsFilled NonZero z = z ≢ pos 0

@@ -1,4 +1,4 @@
--- The laws of removal, over unbounded integers: what holds of the contours that removals lead to.
+-- The laws of removal, over unbounded integers: what holds of the contours that removals reach.
 use Rattle.std.specs.Prelude.{◌≡◌, ◌<◌, ◌≤◌, List, ◌∷◌, ◌++◌, reverse, length, ◌↔◌}
 use Rattle.i_shape_core.specs.Point.{Point, IsZeroTurn, IsBack}
 use Rattle.i_shape_core.specs.Contour.{Reach, End, Rotation, SameEnd, IsCollapsed, IsSimple}
@@ -22,14 +22,14 @@ pub record Twice (c : List Point) : Type 0 where
   pub again : (e f : List Point) → End IsZeroTurn c e → End IsZeroTurn e f → f ≡ e
   pub simple : IsSimple c → (d : List Point) → Reach IsZeroTurn c d → d ≡ c
 
--- an end of at least three points is the end of every order up to rotation, every order collapses or none does, and
--- there is an end
+-- an end of at least three points is the end of every order up to rotation; every order collapses or none does; there
+-- is an end
 pub record EveryOrder (c : List Point) : Type 0 where
   pub some : (e f : List Point) → End IsZeroTurn c e → 3 ≤ length e → End IsZeroTurn c f → (3 ≤ length f) × Rotation e f
   pub none : (d f : List Point) → Reach IsZeroTurn c d → IsCollapsed d → End IsZeroTurn c f → IsCollapsed f
   pub exists : (e : List Point) × End IsZeroTurn c e
 
--- what is left of c if only back vertices are removed has collapsed exactly where the ends of c have, and otherwise has
+-- if only back vertices are removed from c, what is left has collapsed exactly if the ends of c have, and otherwise has
 -- their ends
 pub record Agreed (c : List Point) : Type 0 where
   pub alike : (d e : List Point) → End IsBack c d → End IsZeroTurn c e → IsCollapsed d ↔ IsCollapsed e
@@ -39,13 +39,13 @@ pub record Agreed (c : List Point) : Type 0 where
 abbrev pub AreaKept : List Point → List Point → Type 0
 AreaKept c d = Reach IsZeroTurn c d → shoelace c ≡ shoelace d
 
--- removals keep which points are inside; with fewer than three points none is
+-- removals keep which points are inside; no point is inside fewer than three points
 pub record InsideKept (c d : List Point) : Type 0 where
   pub kept : Reach IsZeroTurn c d → (p : Point) → Inside c p ↔ Inside d p
   pub none : length c < 3 → (p : Point) → Inside c p → ⊥
 
--- without spikes no end collapses, and each is convex exactly where the contour is; rotation, reversal and repeating a
--- point beside itself keep convexity
+-- without spikes no end collapses, and each is convex exactly if the contour is; rotation, reversal and repeating a
+-- point right after itself keep convexity
 pub record ConvexKept (c : List Point) : Type 0 where
   pub ends : NoSpikes c → (e : List Point) → End IsZeroTurn c e → (3 ≤ length e) × (Convex c ↔ Convex e)
   pub rotated : (d : List Point) → Rotation c d → Convex c ↔ Convex d

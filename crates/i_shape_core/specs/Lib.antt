@@ -8,6 +8,7 @@ pub mod Winding
 pub mod Moves
 pub mod Convex
 pub mod Cleaners
+pub mod Cleaning
 pub mod Laws
 pub mod Survivors
 pub mod Filling
@@ -17,7 +18,7 @@ pub mod Room
 pub mod Turn
 pub mod Refusals
 pub mod Canonical
-pub mod Walks
+pub mod Steps
 pub mod Heights
 pub mod Turning
 pub mod Unclean

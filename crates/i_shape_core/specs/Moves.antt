@@ -2,8 +2,7 @@
 use Rattle.std.specs.Prelude.{ℤ, pos, ◌+ℤ◌, ◌-ℤ◌, ◌*ℤ◌, List, map}
 use Rattle.i_shape_core.specs.Point.{Point}
 
--- the new x is xx times the old x, and xy times the old y, and the number x; the new y is yx times the old x, and yy
--- times the old y, and the number y
+-- maps the point (a, b) to (xx * a + xy * b + x, yx * a + yy * b + y)
 pub record Move : Type 0 where
   pub xx : ℤ
   pub xy : ℤ
@@ -24,6 +23,6 @@ moved_point m p = record { x = m.xx *ℤ p.x +ℤ m.xy *ℤ p.y +ℤ m.x; y = m.
 abbrev pub moved : Move → List Point → List Point
 moved m c = map (moved_point m) c
 
--- each point n times as far from the origin
+-- maps each point to n times its distance from the origin
 abbrev pub scaling : ℤ → Move
 scaling n = record { xx = n; xy = pos 0; yx = pos 0; yy = n; x = pos 0; y = pos 0 }

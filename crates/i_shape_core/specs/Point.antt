@@ -30,10 +30,10 @@ cross a b c = cross_of (vector a b) (vector b c)
 unfoldable pub dot : Point → Point → Point → ℤ
 dot a b c = dot_of (vector a b) (vector b c)
 
--- at b the path goes straight on or turns back
+-- at b the path doesn't turn: it goes straight on or back
 abbrev pub IsZeroTurn : Point → Point → Point → Type 0
 IsZeroTurn a b c = cross a b c ≡ pos 0
 
--- at b the path turns back or stands still
+-- at b the path goes back: b equals a or c, or the path reverses
 abbrev pub IsBack : Point → Point → Point → Type 0
 IsBack a b c = (cross a b c ≡ pos 0) × (dot a b c ≤ℤ pos 0)

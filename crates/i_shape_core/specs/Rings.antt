@@ -3,6 +3,7 @@ use Rattle.std.specs.Prelude.{◌≡◌, ℕ, ◌+◌, ◌-◌, ◌<◌, ◌≤�
 use Rattle.std.specs.Int.{Width}
 use Rattle.i_shape_core.specs.Point.{Point}
 use Rattle.i_shape_core.specs.IntPoint.{IsSafeContour}
+use Rattle.i_shape_core.specs.Cleaning.{Cleaning}
 use Rattle.i_shape_core.specs.Written.{slot, IsCleaned}
 use Rattle.i_shape_core.specs.Unclean.{LongestUnclean, IsShortOrClean}
 use Rattle.i_shape_core.specs.declared.error.ShapeError.{ShapeError}
@@ -20,7 +21,8 @@ nth_ring points offsets k = slice_range points (offset offsets k) (offset offset
 abbrev pub AreRising : List ℕ → ℕ → Type 0
 AreRising offsets n = (k : ℕ) → k + 1 < n → offset offsets k ≤ offset offsets (k + 1)
 
--- the offsets divide a list of that many points
+-- the offsets cut consecutive parts out of a list of that many points: the first may be above 0, and the last below
+-- that number
 pub record PartsPoints (points : ℕ) (offsets : List ℕ) : Type 0 where
   pub some : 0 < length offsets
   pub order : AreRising offsets (length offsets)
@@ -53,22 +55,31 @@ pub record TakesRoom {P T : Type 0} (Clean : List Point → Type 0) (read : List
   pub memory : IsOkUnless result OutOfMemory
   pub unclean : OnErr result (AreShortOrClean Clean read points offsets (length offsets) → ⊥)
   pub reserved : HaveRoom Clean read had points offsets (length offsets) → IsOk result
-  -- no room is lost, and afterwards there is room for each ring
+  -- no room is lost, and afterwards there is room for each ring that isn't clean
   pub keeps_room : (n : ℕ) → had n → has n
   pub takes_room : OnOk result (HaveRoom Clean read has points offsets (length offsets))
 
--- what a cleaner leaves of a caller's ring: an empty list if it collapses
-pub record Leaves {P : Type 0} (Answer Kept : List Point → Option (List Point) → Type 0) (Picks : List P → List P → Type 0) (width : Width) (read : List P → List Point) (given left : List P) : Type 0 where
-  pub picked : Picks given left
-  pub cleaned : IsCleaned Answer Kept width (read given) (slot (read left))
+-- points, and the offsets that divide them into rings
+pub record RingArrays (P : Type 0) : Type 0 where
+  pub points : List P
+  pub offsets : List ℕ
 
--- each ring into which the new offsets divide the points is what is left of the ring that was at its place; there are n
--- points in total, and what lies behind them and behind the offsets is as it was
-pub record AreCleanedRings {P : Type 0} (Left : List P → List P → Type 0) (points : List P) (offsets : List ℕ) (old_points new_points : List P) (old_offsets new_offsets : List ℕ) (n : ℕ) : Type 0 where
-  pub first : offset new_offsets 0 ≡ 0
-  pub order : AreRising new_offsets (length offsets)
-  pub last : offset new_offsets (length offsets - 1) ≡ n
-  pub fewer : n ≤ length points
-  pub cleaned : (k : ℕ) → k + 1 < length offsets → Left (nth_ring points offsets k) (nth_ring new_points new_offsets k)
-  pub rest : drop n new_points ≡ drop n old_points
-  pub offsets_rest : drop (length offsets) new_offsets ≡ drop (length offsets) old_offsets
+-- these two arrays
+abbrev pub ring_arrays : {P : Type 0} → List P → List ℕ → RingArrays P
+ring_arrays points offsets = record { points = points; offsets = offsets }
+
+-- what a cleaner leaves of a caller's ring: an empty list if it collapses
+pub record CleansRing {P : Type 0} (cleaning : Cleaning) (width : Width) (read : List P → List Point) (given left : List P) : Type 0 where
+  pub picked : cleaning.picks P given left
+  pub cleaned : IsCleaned cleaning width (read given) (slot (read left))
+
+-- each ring into which the new offsets divide the points is what is left of the given ring that was at its place; there
+-- are n points in total, and what lies behind them and behind the offsets is as it was
+pub record AreCleanedRings {P : Type 0} (Left : List P → List P → Type 0) (given old new : RingArrays P) (n : ℕ) : Type 0 where
+  pub first : offset new.offsets 0 ≡ 0
+  pub order : AreRising new.offsets (length given.offsets)
+  pub last : offset new.offsets (length given.offsets - 1) ≡ n
+  pub fewer : n ≤ length given.points
+  pub cleaned : (k : ℕ) → k + 1 < length given.offsets → Left (nth_ring given.points given.offsets k) (nth_ring new.points new.offsets k)
+  pub rest : drop n new.points ≡ drop n old.points
+  pub offsets_rest : drop (length given.offsets) new.offsets ≡ drop (length given.offsets) old.offsets

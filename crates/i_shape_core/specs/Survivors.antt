@@ -1,4 +1,4 @@
--- What cleaning leaves of the members of a list, if `Answer` relates each member to its cleaned one, or to none if it
+-- What cleaning leaves of the members of a list. `Answer` relates each member to its cleaned one, or to none if it
 -- collapses.
 use Rattle.std.specs.Prelude.{◌≡◌, List, Option}
 use Rattle.std.specs.List.{AllZip, filter_map}
@@ -9,6 +9,6 @@ use Rattle.i_shape_core.specs.Cleaners.{SimpleAnswer}
 abbrev pub Survivors : {X Y : Type 0} → (X → Option Y → Type 0) → List X → List Y → Type 0
 Survivors {X} {Y} Answer xs kept = (answers : List (Option Y)) × AllZip Answer xs answers × (kept ≡ filter_map (λ answer. answer) answers)
 
--- the kept contours are the ends of cleaning each, in order, without those that collapse
+-- the kept contours are the one ends of the contours, in order, without those that collapse
 abbrev pub Compact : List (List Point) → List (List Point) → Type 0
 Compact contours kept = Survivors SimpleAnswer contours kept

@@ -1,6 +1,6 @@
--- The contours that a cleaner needs room for. Keys of any kind represent the contours, such as their places, or the
--- contours themselves: `Among` holds of the keys of those that are meant, `Clean` of the keys of clean ones, and
--- `count` is the number of points.
+-- The contours that a cleaner needs room for. Keys represent the contours, such as their indices, or the contours
+-- themselves: `Among` holds of the keys of those in question, `Clean` of the keys of clean ones, and `count` is the
+-- number of points.
 use Rattle.std.specs.Prelude.{◌≡◌, ℕ, ◌<◌, ◌≤◌, ◌⊎◌, Option, MatchOption}
 
 -- the longest of the contours that aren't clean has n points

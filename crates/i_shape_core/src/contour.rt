@@ -11,14 +11,14 @@ ghost use Rattle.i_shape_core.specs.Filling.{IsFilled};
 ghost use Rattle.i_shape_core.specs.Boundary.{IsOnEdge};
 ghost use Rattle.i_shape_core.specs.Convex.{Convex};
 
-use crate::area::area_of;
-use crate::bend::{Bend, bend_of};
-use crate::boundary::is_on_boundary;
-use crate::fill_rule::FillRule;
+use crate::measure::area::area_of;
+use crate::measure::boundary::is_on_boundary;
+use crate::measure::fill_rule::FillRule;
+use crate::measure::winding::{passes_right, winding_about, windings_about};
 use crate::number::{IntNumber, WideIntNumber};
 use crate::point::{ContourPoint, IntPoint};
-use crate::same::{are_same, last_other};
-use crate::winding::{passes_right, winding_about, windings_about};
+use crate::turn::bend::{Bend, bend_of};
+use crate::turn::repeats::{are_same, last_other};
 
 /// Tests of a contour as a whole. Each allocates nothing, and takes time linear in the points; `winding_numbers_into`
 /// takes it for each point asked about.
@@ -66,7 +66,7 @@ pub trait ContourExtension<I: IntNumber> {
             ↔ IsFilled rule (winding (contour self.now) (point_of I.value point)) };
 
     /// Writes the winding number about each of the points, which may be of any type, to the front of `out`. Requires an
-    /// `out` at least as long as `points`. The rest of it stays as it was.
+    /// `out` at least as long as `points`. The rest of it is unchanged.
     fn winding_numbers_into<P: ContourPoint<Coordinate = I>>(&self, points: &[P], out: &mut [isize])
         requires contour_safe { IsSafeContour I.width (contour self.now) }
         requires points_safe { IsSafeContour I.width (read I.value P.points points.now) }

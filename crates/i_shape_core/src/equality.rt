@@ -4,12 +4,12 @@
 ghost use Rattle.std.specs.Prelude.{◌≡◌, ◌↔◌, IsTrue};
 
 use crate::error::ShapeError;
-use crate::fill_rule::FillRule;
+use crate::measure::fill_rule::FillRule;
 use crate::number::IntNumber;
 use crate::point::IntPoint;
 use crate::turn::Turn;
 
-/// `==` of two errors is true exactly where they are the same. A clone is the error itself, and cloning never fails.
+/// `==` of two errors is true exactly if they are the same. A clone is the error itself, and cloning never fails.
 pub fn errors_equal(_a: &ShapeError, _b: &ShapeError)
     ensures compared { IsTrue (⟦<ShapeError as PartialEq>⟧.eq _a.now _b.now) ↔ (_a.now ≡ _b.now) }
     ensures cloned { ⟦<ShapeError as Clone>⟧.is_clone _a.now _b.now → _b.now ≡ _a.now }

@@ -23,7 +23,7 @@ use crate::number::IntNumber;
 use crate::point::IntPoint;
 
 /// Two ends of a contour have both collapsed, or neither has and they are rotations of each other.
-#[tactic(auto, using(crate::proofs::removal::ZeroTurns::one_end))]
+#[tactic(auto, using(crate::proofs::Removal::ZeroTurns::one_end))]
 pub fn one_end<I: IntNumber>(_c: &[IntPoint<I>])
     ensures { OneEnd (contour_of I.value _c.now) }
 {}
@@ -34,49 +34,49 @@ pub fn rotated<I: IntNumber>(_c: &[IntPoint<I>], _d: &[IntPoint<I>])
 {}
 
 /// The ends of a contour reversed are its ends reversed, up to rotation.
-#[tactic(auto, using(crate::proofs::removal::ZeroTurns::reversed_ends))]
+#[tactic(auto, using(crate::proofs::Removal::ZeroTurns::reversed_ends))]
 pub fn reversed<I: IntNumber>(_c: &[IntPoint<I>])
     ensures { ReversedEnds (contour_of I.value _c.now) }
 {}
 
 /// An end is its own only end, and a simple contour reaches only itself.
-#[tactic(auto, using(crate::proofs::removal::ZeroTurns::end_of_end))]
+#[tactic(auto, using(crate::proofs::Removal::ZeroTurns::end_of_end))]
 pub fn twice<I: IntNumber>(_c: &[IntPoint<I>])
     ensures { Twice (contour_of I.value _c.now) }
 {}
 
-/// What is left if only back vertices (spikes and repeated points) are removed has collapsed exactly where the ends of
-/// the contour have. Otherwise it has their ends, up to rotation.
-#[tactic(auto, using(crate::proofs::removal::ZeroTurns::ends_agree))]
+/// What is left if only back vertices (spikes and repeated points) are removed has collapsed exactly if the ends of the
+/// contour have. Otherwise it has their ends, up to rotation.
+#[tactic(auto, using(crate::proofs::Removal::ZeroTurns::ends_agree))]
 pub fn agreed<I: IntNumber>(_c: &[IntPoint<I>])
     ensures { Agreed (contour_of I.value _c.now) }
 {}
 
 /// Removing zero turns keeps the double area.
-#[tactic(auto, using(crate::proofs::measure::Edges::area_kept))]
+#[tactic(auto, using(crate::proofs::Sums::Edges::area_kept))]
 pub fn area_kept<I: IntNumber>(_c: &[IntPoint<I>], _d: &[IntPoint<I>])
     ensures { AreaKept (contour_of I.value _c.now) (contour_of I.value _d.now) }
 {}
 
 /// Removing zero turns keeps which points are inside.
-#[tactic(auto, using(crate::proofs::measure::Inside::inside_laws))]
+#[tactic(auto, using(crate::proofs::Sums::Inside::inside_laws))]
 pub fn inside_kept<I: IntNumber>(_c: &[IntPoint<I>], _d: &[IntPoint<I>])
     ensures { InsideKept (contour_of I.value _c.now) (contour_of I.value _d.now) }
 {}
 
-/// A contour without spikes doesn't collapse, and is convex exactly where its ends are. Convexity stays under rotation,
-/// reversal, and repetition of a point beside itself.
+/// A contour without spikes doesn't collapse, and is convex exactly if its ends are. Rotation, reversal and repeating a
+/// point right after itself keep convexity.
 pub fn convex_kept<I: IntNumber>(_c: &[IntPoint<I>])
     ensures { ConvexKept (contour_of I.value _c.now) }
 {}
 
-/// The ends of two contours that don't collapse have equal least rotations exactly where a chain joins the contours: of
+/// The ends of two contours that don't collapse have equal least rotations exactly if a chain joins the contours: of
 /// rotations, and of removals and insertions of zero turns, with at least three points in each contour.
 pub fn canonical_joined<I: IntNumber>(_c: &[IntPoint<I>], _d: &[IntPoint<I>])
     ensures { CanonicalJoined (contour_of I.value _c.now) (contour_of I.value _d.now) }
 {}
 
-/// `==` of two points is true exactly where they are the same point.
+/// `==` of two points is true exactly if they are the same point.
 pub fn points_equal<I: IntNumber>(_a: &IntPoint<I>, _b: &IntPoint<I>)
     ensures same_value { IsTrue (⟦<IntPoint<I> as PartialEq>⟧.eq _a.now _b.now)
         ↔ (_a.now ≡ _b.now) }
@@ -91,7 +91,7 @@ pub fn points_ordered<I: IntNumber>(_a: &IntPoint<I>, _b: &IntPoint<I>)
         (IsBefore a b) (a ≡ b) (IsBefore b a) }
 {}
 
-/// `partial_cmp` of two points agrees with `cmp`, and `<` is true exactly where the first comes before the second.
+/// `partial_cmp` of two points agrees with `cmp`, and `<` is true exactly if the first comes before the second.
 pub fn points_compared<I: IntNumber>(_a: &IntPoint<I>, _b: &IntPoint<I>)
     ensures partial { ⟦<IntPoint<I> as PartialOrd>⟧.partial_cmp _a.now _b.now
         ≡ Some (⟦<IntPoint<I> as Ord>⟧.cmp _a.now _b.now) }

@@ -6,40 +6,22 @@
 //! strictly between -2^(BITS-2) and 2^(BITS-2).
 #![tactic(auto)]
 
-pub mod area;
-mod bend;
-pub mod boundary;
-pub mod canonical;
-pub mod cleaner;
-mod comparer;
+pub mod clean;
 pub mod contour;
-pub mod copies;
-pub mod despike;
 pub mod equality;
 pub mod error;
-pub mod fill_rule;
-pub mod heights;
+pub mod form;
 pub mod laws;
+pub mod measure;
 pub mod number;
 pub mod point;
-pub mod probe;
-mod ring;
-pub mod rings;
-pub mod safe_range;
-mod same;
-mod scan;
-pub mod simple;
-pub mod simplifier;
-pub mod triangle;
 pub mod turn;
-mod turning;
-mod unoriented;
-pub mod winding;
-mod write;
-mod zero_turns;
 
-pub use fill_rule::FillRule;
+pub use clean::probe::Probe;
+pub use clean::{batch, cleaner, copies, despike, probe, simple, simplifier};
+pub use form::canonical;
+pub use measure::fill_rule::FillRule;
+pub use measure::{area, boundary, fill_rule, heights, safe_range, winding};
 pub use number::{IntNumber, WideIntNumber};
-pub use probe::Probe;
-pub use triangle::Triangle;
-pub use turn::Turn;
+pub use turn::triangle::Triangle;
+pub use turn::{Turn, triangle};

@@ -5,10 +5,11 @@ ghost use Rattle.std.specs.Int.{Width, int_wrap, int_signum};
 ghost use Rattle.std.specs.Ordering.{int_cmp};
 ghost use Rattle.i_shape_core.specs.Widths.{bits, hbits};
 
-use crate::zero_turns::ZeroTurns;
+use crate::number::zero_turns::ZeroTurns;
 
 mod coordinate;
 mod wide;
+mod zero_turns;
 
 /// A signed integer type that holds the products of coordinates.
 pub trait WideIntNumber: Copy + Ord {

@@ -9,6 +9,11 @@ ghost use Rattle.i_shape_core.specs.Turn.{IsTurn};
 use crate::number::{IntNumber, WideIntNumber};
 use crate::point::{ContourPoint, IntPoint};
 
+pub(crate) mod bend;
+pub(crate) mod repeats;
+pub mod triangle;
+pub(crate) mod turning;
+
 /// How a path turns at a vertex.
 #[derive(Clone, Copy, PartialEq, Eq, Debug)]
 pub enum Turn {
@@ -16,11 +21,11 @@ pub enum Turn {
     Turning,
     /// It goes straight on.
     Straight,
-    /// It turns back or stands still.
+    /// It goes back, or the vertex equals a neighbour.
     Back,
 }
 
-/// How the way from `a` over `b` to `c` turns.
+/// Returns how the path from `a` over `b` to `c` turns.
 #[inline(always)]
 #[tactic(auto, unfolding(crate::specs::Point::cross, crate::specs::Point::dot))]
 pub fn turn_of<I: IntNumber>(a: IntPoint<I>, b: IntPoint<I>, c: IntPoint<I>) -> Turn

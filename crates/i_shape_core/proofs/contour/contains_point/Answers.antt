@@ -1,9 +1,9 @@
 use Rattle.std.proofs.Common.{◌≡◌, cond, not, arith}
 use Rattle.i_shape_core.specs.IntPoint.{point_of}
-use Rattle.i_shape_core.proofs.plane.PointLists.{points-length, read-length, item_read, last_read}
-use Rattle.i_shape_core.proofs.plane.SafeParts.{item_safe}
-use Rattle.i_shape_core.proofs.measure.Inside.{none_inside}
-use Rattle.i_shape_core.proofs.measure.InsideWalk.{counted_start, counted_more, counted_end}
+use Rattle.i_shape_core.proofs.Plane.PointLists.{points-length, read-length, item_read, last_read}
+use Rattle.i_shape_core.proofs.Plane.SafeParts.{item_safe}
+use Rattle.i_shape_core.proofs.Sums.Inside.{none_inside}
+use Rattle.i_shape_core.proofs.Sums.InsideWalk.{counted_start, counted_more, counted_end}
 use Rattle.i_shape_core.proofs.contour.contains_point.Goals as goal
 use Rattle.i_shape_core.proofs.contour.contains_point.Goals.{then-passes_right, else-passes_right}
 

@@ -1,6 +1,6 @@
 use Rattle.std.proofs.Common.{drop}
 use Rattle.i_shape_core.specs.IntPoint.{point_of, contour_of, IsSafe}
-use Rattle.i_shape_core.proofs.measure.InsideWalk.{IsCounted}
+use Rattle.i_shape_core.proofs.Sums.InsideWalk.{IsCounted}
 use Rattle.i_shape_core.proofs.contour.contains_point.Given as goal
 
 abbrev pub invariant-loop-given : goal.invariant-loop-given

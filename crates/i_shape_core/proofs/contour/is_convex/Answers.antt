@@ -1,11 +1,11 @@
 use Rattle.std.proofs.Common.{◌≡◌, ◌≢◌, ◌↔◌, ◌∙◌, sym, ap, inl, inr, IsTrue, false, rules, arith}
-use Rattle.i_shape_core.specs.declared.bend.Bend.TheVariants.{Straight, Reversal}
+use Rattle.i_shape_core.specs.declared.turn.bend.Bend.TheVariants.{Straight, Reversal}
 use Rattle.i_shape_core.proofs.Common.{point_of, is_same}
-use Rattle.i_shape_core.proofs.plane.PointLists.{points-length, item_read, last_read}
-use Rattle.i_shape_core.proofs.arithmetic.Coordinates.{safe_points-apart, safe_vector-above}
-use Rattle.i_shape_core.proofs.plane.SafeParts.{item_safe}
-use Rattle.i_shape_core.proofs.walks.Spikes.{found_safe}
-use Rattle.i_shape_core.proofs.convex.BendWalk.{bending_begins, bending_repeat, bending_item, bending_over, clash_item, few_tells, convex_without, convex_alike}
+use Rattle.i_shape_core.proofs.Plane.PointLists.{points-length, item_read, last_read}
+use Rattle.i_shape_core.proofs.Arithmetic.Coordinates.{safe_points-apart, safe_vector-above}
+use Rattle.i_shape_core.proofs.Plane.SafeParts.{item_safe}
+use Rattle.i_shape_core.proofs.Walks.Spikes.{found_safe}
+use Rattle.i_shape_core.proofs.Convex.BendWalk.{bending_begins, bending_repeat, bending_item, bending_over, clash_item, few_tells, convex_without, convex_alike}
 use Rattle.i_shape_core.proofs.contour.is_convex.Goals as goal
 use Rattle.i_shape_core.proofs.contour.is_convex.Goals.{else-eq-via-then-eq+else-are_same, else-eq-via-else-eq}
 

@@ -1,5 +1,5 @@
 use Rattle.i_shape_core.specs.IntPoint.{point_of, IsSafe}
-use Rattle.i_shape_core.proofs.convex.BendWalk.{IsBending}
+use Rattle.i_shape_core.proofs.Convex.BendWalk.{IsBending}
 use Rattle.i_shape_core.proofs.contour.is_convex.Given as goal
 
 abbrev pub invariant-loop-given : goal.invariant-loop-given

@@ -1,5 +1,5 @@
 use Rattle.i_shape_core.specs.IntPoint.{contour_of}
-use Rattle.i_shape_core.proofs.forms.Canonical as lemmas
+use Rattle.i_shape_core.proofs.Forms.Canonical as lemmas
 use Rattle.i_shape_core.proofs.laws.canonical_joined.Goals as goal
 
 pub returns : goal.returns

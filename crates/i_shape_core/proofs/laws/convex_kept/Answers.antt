@@ -1,5 +1,5 @@
 use Rattle.i_shape_core.specs.IntPoint.{contour_of}
-use Rattle.i_shape_core.proofs.convex.Laws as lemmas
+use Rattle.i_shape_core.proofs.Convex.Laws as lemmas
 use Rattle.i_shape_core.proofs.laws.convex_kept.Goals as goal
 
 pub returns : goal.returns

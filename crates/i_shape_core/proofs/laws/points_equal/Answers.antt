@@ -1,4 +1,4 @@
-use Rattle.i_shape_core.proofs.plane.Contours.{points_decided, values_decided}
+use Rattle.i_shape_core.proofs.Plane.Contours.{points_decided, values_decided}
 use Rattle.i_shape_core.proofs.laws.points_equal.Goals as goal
 
 pub returns-clause-same_value : goal.returns-clause-same_value

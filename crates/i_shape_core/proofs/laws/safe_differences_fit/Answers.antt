@@ -1,6 +1,6 @@
 use Rattle.std.proofs.Common.{◌-ℤ◌}
-use Rattle.i_shape_core.proofs.arithmetic.Coordinates.{safe-difference}
-use Rattle.i_shape_core.proofs.arithmetic.Products.{product-fits}
+use Rattle.i_shape_core.proofs.Arithmetic.Coordinates.{safe-difference}
+use Rattle.i_shape_core.proofs.Arithmetic.Products.{product-fits}
 use Rattle.i_shape_core.proofs.laws.safe_differences_fit.Goals as goal
 
 pub returns-clause-products : goal.returns-clause-products

@@ -1,4 +1,4 @@
-use Rattle.i_shape_core.proofs.walks.Turning.{placed}
+use Rattle.i_shape_core.proofs.Walks.Turning.{placed}
 use Rattle.i_shape_core.proofs.turn.turn_at.Goals as goal
 
 pub turn_of-requires-clause-a_safe : goal.turn_of-requires-clause-a_safe

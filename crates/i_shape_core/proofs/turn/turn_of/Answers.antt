@@ -1,7 +1,7 @@
 use Rattle.std.proofs.Common.{ap, arith}
 use Rattle.std.proofs.lemmas.Grind.{common_steps}
 use Rattle.i_shape_core.specs.Point.{cross, dot}
-use Rattle.i_shape_core.proofs.arithmetic.Coordinates.{safe_vector-above}
+use Rattle.i_shape_core.proofs.Arithmetic.Coordinates.{safe_vector-above}
 use Rattle.i_shape_core.proofs.turn.turn_of.Goals as goal
 
 pub dot_product-requires : goal.dot_product-requires

@@ -1,5 +1,5 @@
 use Rattle.std.proofs.Common.{◌∙◌, ap}
-use Rattle.i_shape_core.proofs.arithmetic.Comparisons.{le-tells}
+use Rattle.i_shape_core.proofs.Arithmetic.Comparisons.{le-tells}
 use Rattle.i_shape_core.proofs.contour.RefSliceIntPointContourExtension.is_clockwise_ordered.Goals as goal
 
 pub returns : goal.returns

@@ -1,0 +1,3 @@
+-- The definitions at literal contours.
+pub mod Definitions
+pub mod ShortContours

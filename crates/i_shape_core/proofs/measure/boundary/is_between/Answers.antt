@@ -1,0 +1,7 @@
+use Rattle.std.proofs.Common.{ap}
+use Rattle.i_shape_core.proofs.Arithmetic.Coordinates.{safe_vector-above}
+use Rattle.i_shape_core.proofs.measure.boundary.is_between.Goals as goal
+
+pub dot_product-requires : goal.dot_product-requires
+dot_product-requires g c = λ least.
+    safe_vector-above g.I.IntNumber.width g.met.I.IntNumber.some_bits g.met.I.IntNumber.bits_split _ _ _ _ c.requires.point_safe c.requires.start_safe g.met.I.IntNumber.min_value c.sub-before.ensures (ap g.I.IntNumber.value least.0)
