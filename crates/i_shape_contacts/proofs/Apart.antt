@@ -2,10 +2,10 @@
 use Rattle.std.proofs.Common.{◌≡◌, [], ◌∷◌, ℤ, pos, ◌+ℤ◌, ◌-ℤ◌, ◌*ℤ◌, neg_ℤ, ◌≤ℤ◌, ◌<ℤ◌, refl, sym, ap, ◌∙◌, arith, ◌⊎◌, inl, inr}
 use Rattle.std.proofs.lemmas.Int.{ints}
 use Rattle.i_shape_core.specs.Point.{Point, cross}
-use Rattle.i_shape_core.proofs.arithmetic.Polynomials.{number, variable, plus, times, minus, by_polynomials}
-use Rattle.i_shape_core.proofs.plane.CrossProducts.{cross_term, A, B, C, D}
+use Rattle.i_shape_core.proofs.Arithmetic.Polynomials.{number, variable, plus, times, minus, by_polynomials}
+use Rattle.i_shape_core.proofs.Plane.CrossProducts.{cross_term, A, B, C, D}
 use Rattle.i_shape_contacts.specs.Meeting.{IsOnSegment, Meet}
-use Rattle.i_shape_contacts.specs.Deciding.{AreLess, Overlap, Straddle}
+use Rattle.i_shape_contacts.specs.Steps.Deciding.{AreLess, Overlap, Straddle}
 use Rattle.i_shape_contacts.proofs.Signs.{product_positive, mixed_least, mixed_positive, compared}
 
 -- a place between a and b is at most d times what both are at most

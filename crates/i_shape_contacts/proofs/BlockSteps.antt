@@ -7,7 +7,7 @@ use Rattle.i_shape_contacts.specs.declared.boxes.Bounds.{Bounds}
 use Rattle.i_shape_contacts.specs.declared.boxes.Block.{Block}
 use Rattle.i_shape_contacts.specs.Meeting.{Meet}
 use Rattle.i_shape_contacts.specs.Contacts.{IsContactBy}
-use Rattle.i_shape_contacts.specs.Boxes.{Holds, AreApart, HoldsEdge, IsBlock, AreBlocks}
+use Rattle.i_shape_contacts.specs.Steps.Boxes.{Holds, AreApart, HoldsEdge, IsBlock, AreBlocks}
 use Rattle.i_shape_contacts.proofs.Apart.{apart_x, apart_y, meet_swapped}
 use Rattle.i_shape_contacts.proofs.ContactTests.{share_meets}
 

@@ -4,8 +4,8 @@ use Rattle.std.proofs.lemmas.Bool.{cases_eq}
 use Rattle.std.proofs.lemmas.Int.{ints}
 use Rattle.i_shape_core.specs.Point.{Point}
 use Rattle.i_shape_core.specs.Contour.{point_at}
-use Rattle.i_shape_core.proofs.arithmetic.Polynomials.{variable, plus, times, minus, by_polynomials}
-use Rattle.i_shape_core.proofs.plane.CrossProducts.{same_point}
+use Rattle.i_shape_core.proofs.Arithmetic.Polynomials.{variable, plus, times, minus, by_polynomials}
+use Rattle.i_shape_core.proofs.Plane.CrossProducts.{same_point}
 use Rattle.i_shape_contacts.specs.Meeting.{IsOnSegment, Meet, MeetAgain}
 use Rattle.i_shape_contacts.specs.Contacts.{SharePoint, IsContactBy}
 

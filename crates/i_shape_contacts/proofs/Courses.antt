@@ -4,7 +4,7 @@ use Rattle.std.proofs.lemmas.Bool.{cases_lt}
 use Rattle.std.proofs.lemmas.List.{get_or_append_left}
 use Rattle.std.proofs.Math.Seq.{get_or-append_seam}
 use Rattle.i_shape_core.specs.Rings.{offset, AreRising}
-use Rattle.i_shape_core.proofs.lists.Rings.{rises_to}
+use Rattle.i_shape_core.proofs.Lists.Rings.{rises_to}
 use Rattle.i_shape_contacts.specs.Contacts.{IsAfter}
 use Rattle.i_shape_contacts.specs.Courses.{Divides, ListsNext}
 

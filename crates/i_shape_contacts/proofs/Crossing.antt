@@ -2,11 +2,11 @@
 use Rattle.std.proofs.Common.{◌≡◌, [], ◌∷◌, ℤ, pos, ◌+ℤ◌, ◌-ℤ◌, ◌*ℤ◌, neg_ℤ, ◌≤ℤ◌, ◌<ℤ◌, refl, sym, ap, ◌∙◌, arith, ◌⊎◌, inl, inr}
 use Rattle.std.proofs.lemmas.Int.{ints}
 use Rattle.i_shape_core.specs.Point.{Point, cross, cross_of, vector}
-use Rattle.i_shape_core.proofs.arithmetic.Polynomials.{Term, number, variable, plus, times, minus, by_polynomials}
-use Rattle.i_shape_core.proofs.arithmetic.WholeNumbers.{zero_product, equal_of_difference}
-use Rattle.i_shape_core.proofs.plane.CrossProducts.{coordinates, cross_term, A, B, C, D}
+use Rattle.i_shape_core.proofs.Arithmetic.Polynomials.{Term, number, variable, plus, times, minus, by_polynomials}
+use Rattle.i_shape_core.proofs.Arithmetic.WholeNumbers.{zero_product, equal_of_difference}
+use Rattle.i_shape_core.proofs.Plane.CrossProducts.{coordinates, cross_term, A, B, C, D}
 use Rattle.i_shape_contacts.specs.Meeting.{IsOnSegment, Meet}
-use Rattle.i_shape_contacts.specs.Deciding.{AreLess, Overlap, Straddle}
+use Rattle.i_shape_contacts.specs.Steps.Deciding.{AreLess, Overlap, Straddle}
 use Rattle.i_shape_contacts.proofs.Signs.{compared}
 
 -- the cross product of the ways along both segments

@@ -7,7 +7,7 @@ use Rattle.i_shape_core.specs.Point.{Point}
 use Rattle.i_shape_core.specs.IntPoint.{contour_of}
 use Rattle.i_shape_core.specs.Rings.{nth_ring}
 use Rattle.i_shape_core.specs.declared.point.IntPoint.{IntPoint}
-use Rattle.i_shape_core.proofs.plane.PointLists.{read-length}
+use Rattle.i_shape_core.proofs.Plane.PointLists.{read-length}
 use Rattle.i_shape_contacts.specs.Courses.{DividesPoints}
 use Rattle.i_shape_contacts.specs.Validity.{IsDegenerate, IsDegenerateRing, IsLeast, IsFirstFault, IsValidPolygon}
 use Rattle.i_shape_contacts.specs.declared.validity.Validity.{Validity}

@@ -2,12 +2,12 @@
 use Rattle.std.proofs.Common.{◌≡◌, [], ◌∷◌, ℤ, pos, negsuc, zero, suc, ◌+ℤ◌, ◌-ℤ◌, ◌*ℤ◌, neg_ℤ, ◌≤ℤ◌, ◌<ℤ◌, refl, ap, ◌∙◌, arith, ◌⊎◌, inl, inr}
 use Rattle.std.proofs.lemmas.Int.{ints}
 use Rattle.i_shape_core.specs.Point.{Point, cross, dot}
-use Rattle.i_shape_core.proofs.arithmetic.Polynomials.{variable, plus, times, minus, by_polynomials}
-use Rattle.i_shape_core.proofs.arithmetic.WholeNumbers.{zero_product, squares_zero, zero_of_positive}
-use Rattle.i_shape_core.proofs.plane.CrossProducts.{coordinates, cross_term, dot_term, A, B, C}
-use Rattle.i_shape_core.proofs.plane.Back.{way_squared, square_term, square_at_least}
+use Rattle.i_shape_core.proofs.Arithmetic.Polynomials.{variable, plus, times, minus, by_polynomials}
+use Rattle.i_shape_core.proofs.Arithmetic.WholeNumbers.{zero_product, squares_zero, zero_of_positive}
+use Rattle.i_shape_core.proofs.Plane.CrossProducts.{coordinates, cross_term, dot_term, A, B, C}
+use Rattle.i_shape_core.proofs.Plane.Back.{way_squared, square_term, square_at_least}
 use Rattle.i_shape_contacts.specs.Meeting.{MeetAgain}
-use Rattle.i_shape_contacts.specs.Deciding.{IsReversal}
+use Rattle.i_shape_contacts.specs.Steps.Deciding.{IsReversal}
 use Rattle.i_shape_contacts.proofs.Signs.{product_least, compared}
 
 -- a place of both segments: shares of the two ways add up to nothing

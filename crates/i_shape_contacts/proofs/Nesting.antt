@@ -6,7 +6,7 @@ use Rattle.i_shape_core.specs.Point.{Point, origin}
 use Rattle.i_shape_core.specs.Contour.{point_at}
 use Rattle.i_shape_core.specs.Winding.{winding}
 use Rattle.i_shape_core.specs.Rings.{offset, nth_ring}
-use Rattle.i_shape_core.proofs.lists.Rings.{rises_to}
+use Rattle.i_shape_core.proofs.Lists.Rings.{rises_to}
 use Rattle.i_shape_contacts.specs.Meeting.{Meet}
 use Rattle.i_shape_contacts.specs.Contacts.{SharePoint, IsAfter, IsRingContact, NoContact}
 use Rattle.i_shape_contacts.specs.Courses.{DividesPoints}
@@ -39,13 +39,13 @@ record RingEdge (offsets : List ℕ) (c : List Point) (r k : ℕ) : Type 0 where
   read : follower (nth_ring c offsets r) k ≡ point_at c end
 
 module _ (offsets : List ℕ) (c : List Point) (d : DividesPoints (length c) offsets) where
-  ends_within : (r : ℕ) → r + 1 < length offsets → offset offsets (r + 1) ≤ length c
+  pub ends_within : (r : ℕ) → r + 1 < length offsets → offset offsets (r + 1) ≤ length c
   ends_within r is_ring =
       let up = rises_to offsets (length offsets) (r + 1) (length offsets - 1) d.divides.order (omega (arith, is_ring)) (omega (arith, is_ring)) in
       let all = d.all in
       omega (arith, up)
 
-  ring_length : (r : ℕ) → r + 1 < length offsets → length (nth_ring c offsets r) + offset offsets r ≡ offset offsets (r + 1)
+  pub ring_length : (r : ℕ) → r + 1 < length offsets → length (nth_ring c offsets r) + offset offsets r ≡ offset offsets (r + 1)
   ring_length r is_ring =
       let within = ends_within r is_ring in
       let order = d.divides.order r is_ring in
@@ -53,7 +53,7 @@ module _ (offsets : List ℕ) (c : List Point) (d : DividesPoints (length c) off
       let some = length-take-le (offset offsets (r + 1) - offset offsets r) (drop (offset offsets r) c) (omega (arith, within, order, rest)) in
       omega (arith, some, order)
 
-  ring_read : (r k : ℕ) → r + 1 < length offsets → k < length (nth_ring c offsets r) → point_at (nth_ring c offsets r) k ≡ point_at c (offset offsets r + k)
+  pub ring_read : (r k : ℕ) → r + 1 < length offsets → k < length (nth_ring c offsets r) → point_at (nth_ring c offsets r) k ≡ point_at c (offset offsets r + k)
   ring_read r k is_ring within =
       let count = ring_length r is_ring in
       get_or-take (offset offsets (r + 1) - offset offsets r) (drop (offset offsets r) c) k origin (omega (arith, within, count)) ∙ get_or-drop (offset offsets r) c k origin

@@ -3,10 +3,10 @@ use Rattle.std.proofs.Common.{◌≡◌, ℕ, ◌<◌, List, [], ◌∷◌, map,
 use Rattle.std.proofs.lemmas.List.{get_or-map, length-map}
 use Rattle.std.proofs.lemmas.List.Sorted.{length_permutation}
 use Rattle.i_shape_core.specs.Heights.{asks}
-use Rattle.i_shape_core.specs.declared.heights.Asked.{Asked}
+use Rattle.i_shape_core.specs.declared.measure.heights.Asked.{Asked}
 use Rattle.i_shape_core.specs.declared.point.IntPoint.{IntPoint}
-use Rattle.i_shape_core.proofs.measure.Heights.{asks-length, each-asked, all-within}
-use Rattle.i_shape_contacts.specs.Orders.{IsRanked, IsOrder}
+use Rattle.i_shape_core.proofs.Sums.Heights.{asks-length, each-asked, all-within}
+use Rattle.i_shape_contacts.specs.Steps.Orders.{IsRanked, IsOrder}
 
 -- the places of a list
 abbrev pub places : {I : Type 0} → List (Asked I) → List ℕ

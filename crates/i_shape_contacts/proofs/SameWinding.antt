@@ -7,9 +7,9 @@ use Rattle.i_shape_core.specs.Point.{Point, cross, origin}
 use Rattle.i_shape_core.specs.Contour.{point_at}
 use Rattle.i_shape_core.specs.Edges.{edges_between, sum_of, is_above}
 use Rattle.i_shape_core.specs.Winding.{winding, winding_of_edge}
-use Rattle.i_shape_core.proofs.arithmetic.Polynomials.{minus, by_polynomials}
-use Rattle.i_shape_core.proofs.plane.CrossProducts.{edge, coordinates, cross_term, A, B, C}
-use Rattle.i_shape_core.proofs.measure.Windings.{flat, goes_up, goes_down}
+use Rattle.i_shape_core.proofs.Arithmetic.Polynomials.{minus, by_polynomials}
+use Rattle.i_shape_core.proofs.Plane.CrossProducts.{edge, coordinates, cross_term, A, B, C}
+use Rattle.i_shape_core.proofs.Sums.Windings.{flat, goes_up, goes_down}
 use Rattle.i_shape_contacts.specs.Meeting.{Meet}
 use Rattle.i_shape_contacts.proofs.Signs.{compared}
 use Rattle.i_shape_contacts.proofs.Crossing.{meet_second_reversed, segment_reversed}
@@ -78,7 +78,7 @@ module _ (p q a b : Point) (apart : Meet p q a b → ⊥) where
       not_right (passing _ _ _ _ _ _ _ _ (mirrored _ _ _ _ _ _ _ _ (balance p q a b)) ap pq qb
       (minus_least _ (right_by (cross a b p) (cross a p b) (turned a p b) s)) (minus_most _ (strictly (pos 0) (cross a b q) y))) (inr y))
 
-  -- a is right of the segment exactly where b is
+  -- a is right of the segment exactly if b is, if both are above p and at most as high as q
   same_side : p.y <ℤ a.y → a.y ≤ℤ q.y → p.y <ℤ b.y → b.y ≤ℤ q.y → int_lt (cross p q a) (pos 0) ≡ int_lt (cross p q b) (pos 0)
   same_side pa aq pb bq = same_test (cross p q a) (cross p q b)
       (λ s t. not_left (between _ _ _ _ _ _ _ _ (balance p q a b) pa aq pb bq (strictly (cross p q a) (pos 0) s) t) (inr s))

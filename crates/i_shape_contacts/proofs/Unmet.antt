@@ -3,8 +3,8 @@
 use Rattle.std.proofs.Common.{◌≡◌, [], ◌∷◌, ℤ, pos, ◌+ℤ◌, ◌-ℤ◌, ◌*ℤ◌, neg_ℤ, ◌≤ℤ◌, ◌<ℤ◌, refl, ap, arith, inl, inr}
 use Rattle.std.proofs.lemmas.Int.{ints}
 use Rattle.i_shape_core.specs.Point.{Point, cross}
-use Rattle.i_shape_core.proofs.arithmetic.Polynomials.{Term, variable, plus, times, minus, by_polynomials}
-use Rattle.i_shape_core.proofs.plane.CrossProducts.{coordinates, cross_term, A, B, C, D}
+use Rattle.i_shape_core.proofs.Arithmetic.Polynomials.{Term, variable, plus, times, minus, by_polynomials}
+use Rattle.i_shape_core.proofs.Plane.CrossProducts.{coordinates, cross_term, A, B, C, D}
 use Rattle.i_shape_contacts.specs.Meeting.{Meet}
 use Rattle.i_shape_contacts.proofs.Signs.{compared, product_least, product_positive, mixed_least}
 use Rattle.i_shape_contacts.proofs.Crossing.{slant, second_side, fourth_side, crossing_left, crossing_right}

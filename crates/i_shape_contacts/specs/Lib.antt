@@ -1,8 +1,8 @@
 pub mod Meeting
-pub mod Deciding
 pub mod Contacts
+pub mod Along
+pub mod Kinds
+pub mod Listing
 pub mod Validity
 pub mod Courses
-pub mod Orders
-pub mod Boxes
-pub mod Chunks
+pub mod Steps

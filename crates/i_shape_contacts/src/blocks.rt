@@ -4,8 +4,8 @@ ghost use Rattle.std.specs.Prelude.{◌≡◌, ◌<◌, ◌≤◌, ◌+◌, ℕ,
 ghost use Rattle.i_shape_core.specs.IntPoint.{IsSafeContour};
 ghost use Rattle.i_shape_core.specs.Reading.{read};
 ghost use Rattle.i_shape_contacts.specs.Contacts.{IsContactBy, NoContact, IsFirstContact, IsFirstAfter};
-ghost use Rattle.i_shape_contacts.specs.Orders.{IsOrder};
-ghost use Rattle.i_shape_contacts.specs.Boxes.{HoldsEdge, IsBlock, AreBlocks};
+ghost use Rattle.i_shape_contacts.specs.Steps.Orders.{IsOrder};
+ghost use Rattle.i_shape_contacts.specs.Steps.Boxes.{HoldsEdge, IsBlock, AreBlocks};
 
 use crate::boxes::{Block, Bounds, are_apart, bounds_between, joined};
 use crate::course::Course;

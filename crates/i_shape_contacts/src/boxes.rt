@@ -3,7 +3,7 @@
 ghost use Rattle.std.specs.Prelude.{◌↔◌, ◌≤ℤ◌, IsTrue};
 ghost use Rattle.i_shape_core.specs.IntPoint.{point_of};
 ghost use Rattle.i_shape_core.specs.Point.{Point};
-ghost use Rattle.i_shape_contacts.specs.Boxes.{Holds, AreApart};
+ghost use Rattle.i_shape_contacts.specs.Steps.Boxes.{Holds, AreApart};
 
 use i_shape_core::number::IntNumber;
 use i_shape_core::point::IntPoint;
@@ -37,7 +37,7 @@ fn greater<I: IntNumber>(a: I, b: I) -> I
 }
 
 /// Returns a box that holds both points.
-pub(crate) fn bounds_between<I: IntNumber>(a: IntPoint<I>, b: IntPoint<I>) -> Bounds<I>
+pub fn bounds_between<I: IntNumber>(a: IntPoint<I>, b: IntPoint<I>) -> Bounds<I>
     ensures first { Holds I.value result (point_of I.value a) }
     ensures second { Holds I.value result (point_of I.value b) }
 {
@@ -54,7 +54,7 @@ pub(crate) fn bounds_between<I: IntNumber>(a: IntPoint<I>, b: IntPoint<I>) -> Bo
 }
 
 /// Returns a box that holds what either box holds.
-pub(crate) fn joined<I: IntNumber>(a: Bounds<I>, b: Bounds<I>) -> Bounds<I>
+pub fn joined<I: IntNumber>(a: Bounds<I>, b: Bounds<I>) -> Bounds<I>
     ensures first { (p : Point) → Holds I.value a p → Holds I.value result p }
     ensures second { (p : Point) → Holds I.value b p → Holds I.value result p }
 {
@@ -71,7 +71,7 @@ pub(crate) fn joined<I: IntNumber>(a: Bounds<I>, b: Bounds<I>) -> Bounds<I>
 }
 
 /// Returns whether the boxes share no point.
-pub(crate) fn are_apart<I: IntNumber>(a: Bounds<I>, b: Bounds<I>) -> bool
+pub fn are_apart<I: IntNumber>(a: Bounds<I>, b: Bounds<I>) -> bool
     ensures { IsTrue result ↔ AreApart I.value a b }
 {
     a.high.x < b.low.x || b.high.x < a.low.x || a.high.y < b.low.y || b.high.y < a.low.y

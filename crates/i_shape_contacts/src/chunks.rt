@@ -4,9 +4,9 @@ ghost use Rattle.std.specs.Prelude.{◌≡◌, ◌<◌, ◌≤◌, ◌+◌, ◌�
 ghost use Rattle.i_shape_core.specs.IntPoint.{IsSafeContour};
 ghost use Rattle.i_shape_core.specs.Reading.{read};
 ghost use Rattle.i_shape_contacts.specs.Contacts.{IsContactBy, NoContact};
-ghost use Rattle.i_shape_contacts.specs.Orders.{IsOrder};
-ghost use Rattle.i_shape_contacts.specs.Boxes.{HoldsEdge, AreBlocks};
-ghost use Rattle.i_shape_contacts.specs.Chunks.{Touch, NoneTouch};
+ghost use Rattle.i_shape_contacts.specs.Steps.Orders.{IsOrder};
+ghost use Rattle.i_shape_contacts.specs.Steps.Boxes.{HoldsEdge, AreBlocks};
+ghost use Rattle.i_shape_contacts.specs.Steps.Chunks.{Touch, NoneTouch};
 
 use crate::blocks::bounds_of_edge;
 use crate::boxes::{Block, Bounds, are_apart, joined};
@@ -65,13 +65,14 @@ fn bounds_of_chunk<P: ContourPoint, C: Course, O: Order>(
     bounds
 }
 
-/// Returns whether the edge at a rank is in contact with one of a chunk.
+/// Returns whether the edge at a rank is in contact with one of a chunk before it, all of whose edges are in a box.
 fn touches_chunk<P: ContourPoint, C: Course, O: Order>(
     points: &[P],
     course: C,
     order: O,
     from: usize,
     to: usize,
+    bounds: Bounds<P::Coordinate>,
     other: usize,
 ) -> bool
     requires safe { IsSafeContour P.Coordinate.width
@@ -81,10 +82,15 @@ fn touches_chunk<P: ContourPoint, C: Course, O: Order>(
     requires ordered { IsOrder (O.count order) (O.edge_at order) (length points.now) }
     requires within { to ≤ length points.now }
     requires other_within { other < length points.now }
+    requires held { (k : ℕ) → from ≤ k → k < to → HoldsEdge P.Coordinate.value (C.follows course) bounds
+        (read P.Coordinate.value P.points points.now) (O.edge_at order k) }
     ensures { result ≡ false → NoneTouch (C.follows course)
         (read P.Coordinate.value P.points points.now) (O.edge_at order) from to other (other + 1) }
 {
     let beside = order.edge(other);
+    if are_apart(bounds, bounds_of_edge(points, course, beside)) {
+        return false;
+    }
     for rank in from..to {
         let edge = order.edge(rank);
         if do_touch(points, course, edge, beside) {
@@ -94,7 +100,72 @@ fn touches_chunk<P: ContourPoint, C: Course, O: Order>(
     false
 }
 
-/// Returns whether an edge of a chunk is in contact with one of the chunk or behind it.
+/// Returns the lesser of two ranks.
+fn lesser_rank(a: usize, b: usize) -> usize
+    ensures first { result ≤ a }
+    ensures second { result ≤ b }
+    ensures either { (k : ℕ) → k < a → k < b → k < result }
+{
+    if b < a { b } else { a }
+}
+
+/// Returns the rank after the last one of the chunk that begins at a rank.
+fn chunk_end(from: usize, count: usize) -> usize
+    requires { from < count }
+    ensures further { from < result }
+    ensures within { result ≤ count }
+{
+    if count - from > CHUNK {
+        from + CHUNK
+    } else {
+        count
+    }
+}
+
+/// Returns whether an edge of a chunk is in contact with one after it at a rank from `start` to below `end`.
+fn touches_between<P: ContourPoint, C: Course, O: Order>(
+    points: &[P],
+    course: C,
+    order: O,
+    blocks: &[Block<P::Coordinate>],
+    from: usize,
+    to: usize,
+    start: usize,
+    end: usize,
+) -> bool
+    requires safe { IsSafeContour P.Coordinate.width
+        (read P.Coordinate.value P.points points.now) }
+    requires can { C.can_follow course }
+    requires count { C.count course ≡ length points.now }
+    requires ordered { IsOrder (O.count order) (O.edge_at order) (length points.now) }
+    requires blocks_count { length blocks.now ≡ length points.now }
+    requires are_blocks { AreBlocks P.Coordinate.value (C.follows course)
+        (read P.Coordinate.value P.points points.now) (O.edge_at order) 0 blocks.now }
+    requires some { from < to }
+    requires within { to ≤ length points.now }
+    requires end_within { end ≤ length points.now }
+    ensures { result ≡ false → NoneTouch (C.follows course)
+        (read P.Coordinate.value P.points points.now) (O.edge_at order) from to start end }
+{
+    let bounds = bounds_of_chunk(points, course, order, from, to);
+    let mut rank = start;
+    while rank < end {
+        let block = blocks[rank];
+        if are_apart(bounds, block.bounds) {
+            rank = block.next;
+            continue;
+        }
+        let until = lesser_rank(rank, to);
+        if touches_chunk(points, course, order, from, until, bounds, rank) {
+            return true;
+        }
+        rank += 1;
+    }
+    false
+}
+
+/// Returns whether an edge of a chunk is in contact with one after it: each with those of the chunk, then all with those
+/// behind it.
 fn does_chunk_touch<P: ContourPoint, C: Course, O: Order>(
     points: &[P],
     course: C,
@@ -116,19 +187,12 @@ fn does_chunk_touch<P: ContourPoint, C: Course, O: Order>(
     ensures { result ≡ false → NoneTouch (C.follows course)
         (read P.Coordinate.value P.points points.now) (O.edge_at order) from to from (length points.now) }
 {
-    let bounds = bounds_of_chunk(points, course, order, from, to);
-    let mut rank = from;
-    while rank < points.len() {
-        let block = blocks[rank];
-        if are_apart(bounds, block.bounds) {
-            rank = block.next;
-        } else if touches_chunk(points, course, order, from, to, rank) {
+    for rank in from..to {
+        if touches_between(points, course, order, blocks, rank, rank + 1, rank + 1, to) {
             return true;
-        } else {
-            rank += 1;
         }
     }
-    false
+    touches_between(points, course, order, blocks, from, to, to, points.len())
 }
 
 /// Returns false only if no two edges are in contact.
@@ -151,11 +215,7 @@ pub(crate) fn may_have_contact<P: ContourPoint, C: Course, O: Order>(
 {
     let mut from = 0;
     while from < points.len() {
-        let to = if points.len() - from > CHUNK {
-            from + CHUNK
-        } else {
-            points.len()
-        };
+        let to = chunk_end(from, points.len());
         if does_chunk_touch(points, course, order, blocks, from, to) {
             return true;
         }

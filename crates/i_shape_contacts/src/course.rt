@@ -16,6 +16,7 @@ pub trait Course: Copy {
     /// What the course must meet.
     ghost can_follow: { Self → Type 0 };
 
+    /// Whether the point at the second place follows the one at the first.
     ghost follows: { Self → ℕ → ℕ → Type 0 };
 
     /// Returns the place of the point that follows the one at `place`.

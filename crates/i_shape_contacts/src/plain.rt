@@ -10,7 +10,9 @@ use crate::course::Course;
 use crate::segments::{are_equal, do_meet, do_meet_again};
 use i_shape_core::point::{ContourPoint, IntPoint};
 
-/// Two edges that are in contact, `first` before `second`: the places of the points from which they lead.
+/// Two edges that are in contact, `first` before `second`: the places of the points from which they lead. Laid out as in
+/// C.
+#[repr(C)]
 #[derive(Clone, Copy, PartialEq, Eq, Debug)]
 pub struct Contact {
     pub first: usize,

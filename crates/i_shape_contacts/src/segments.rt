@@ -3,7 +3,7 @@
 ghost use Rattle.std.specs.Prelude.{◌≡◌, ◌↔◌, IsTrue};
 ghost use Rattle.i_shape_core.specs.IntPoint.{point_of, IsSafe};
 ghost use Rattle.i_shape_contacts.specs.Meeting.{Meet, MeetAgain};
-ghost use Rattle.i_shape_contacts.specs.Deciding.{AreLess, Overlap, Straddle, IsReversal};
+ghost use Rattle.i_shape_contacts.specs.Steps.Deciding.{AreLess, Overlap, Straddle, IsReversal};
 
 use i_shape_core::number::{IntNumber, WideIntNumber};
 use i_shape_core::point::IntPoint;

@@ -6,8 +6,8 @@ ghost use Rattle.i_shape_core.specs.IntPoint.{IsSafeContour};
 ghost use Rattle.i_shape_core.specs.Reading.{read};
 ghost use Rattle.i_shape_core.specs.Heights.{asks};
 ghost use Rattle.i_shape_contacts.specs.Contacts.{IsContactBy, NoContact, IsFirstContact};
-ghost use Rattle.i_shape_contacts.specs.Orders.{IsOrder};
-ghost use Rattle.i_shape_contacts.specs.Boxes.{AreBlocks};
+ghost use Rattle.i_shape_contacts.specs.Steps.Orders.{IsOrder};
+ghost use Rattle.i_shape_contacts.specs.Steps.Boxes.{AreBlocks};
 
 use crate::blocks::{blocks_of, first_by_blocks};
 use crate::boxes::Block;

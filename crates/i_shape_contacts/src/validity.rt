@@ -13,8 +13,8 @@ ghost use Rattle.i_shape_contacts.specs.declared.validity.Validity.TheVariants.{
 
 use crate::first_contact_of_rings;
 use crate::plain::{Contact, are_all_equal, point_of_place};
+use i_shape_core::batch::part;
 use i_shape_core::point::ContourPoint;
-use i_shape_core::rings::part;
 use i_shape_core::winding::winding_about;
 use std::alloc::Global;
 

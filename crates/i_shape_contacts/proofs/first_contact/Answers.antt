@@ -1,6 +1,6 @@
 use Rattle.std.proofs.Common.{ℕ, subst, sym, MatchOption}
 use Rattle.i_shape_core.specs.IntPoint.{contour_of}
-use Rattle.i_shape_core.proofs.plane.PointLists.{read-length}
+use Rattle.i_shape_core.proofs.Plane.PointLists.{read-length}
 use Rattle.i_shape_contacts.specs.Contacts.{IsContactBy, IsNext, NoContact, IsFirstContact}
 use Rattle.i_shape_contacts.proofs.first_contact.Goals as goal
 

@@ -1,7 +1,7 @@
 use Rattle.std.proofs.Common.{◌≡◌, ◌↔◌, List, Bool, true, false, not, Option, None, Some, IsTrue, arith, refl, MatchOption}
 use Rattle.std.specs.Option.{is_some}
 use Rattle.i_shape_core.specs.Point.{Point}
-use Rattle.i_shape_core.proofs.plane.PointLists.{read-length}
+use Rattle.i_shape_core.proofs.Plane.PointLists.{read-length}
 use Rattle.i_shape_contacts.specs.Contacts.{IsContact, NoContact, IsFirstContact}
 use Rattle.i_shape_contacts.specs.declared.plain.Contact.{Contact}
 use Rattle.i_shape_contacts.proofs.is_simple_polygon.Goals as goal

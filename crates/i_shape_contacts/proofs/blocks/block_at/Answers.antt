@@ -1,7 +1,7 @@
 use Rattle.std.proofs.Common.{◌<◌, length, arith, subst, sym}
 use Rattle.i_shape_core.specs.IntPoint.{contour_of}
-use Rattle.i_shape_core.proofs.plane.PointLists.{read-length}
-use Rattle.i_shape_contacts.specs.Boxes.{IsBlock}
+use Rattle.i_shape_core.proofs.Plane.PointLists.{read-length}
+use Rattle.i_shape_contacts.specs.Steps.Boxes.{IsBlock}
 use Rattle.i_shape_contacts.proofs.BlockSteps.{edge_alone, edges_joined}
 use Rattle.i_shape_contacts.proofs.blocks.block_at.Goals as goal
 

@@ -1,6 +1,6 @@
 use Rattle.std.proofs.Common.{ℕ, ◌<◌, ◌≤◌, ◌-◌, length}
 use Rattle.i_shape_core.specs.IntPoint.{contour_of}
-use Rattle.i_shape_contacts.specs.Boxes.{HoldsEdge}
+use Rattle.i_shape_contacts.specs.Steps.Boxes.{HoldsEdge}
 use Rattle.i_shape_contacts.proofs.blocks.block_at.Given as goal
 
 abbrev pub invariant-loop-next : goal.invariant-loop-next

@@ -1,6 +1,6 @@
 use Rattle.std.proofs.Common.{◌≤◌, ◌≡◌, length}
 use Rattle.i_shape_core.specs.IntPoint.{contour_of}
-use Rattle.i_shape_contacts.specs.Boxes.{AreBlocks}
+use Rattle.i_shape_contacts.specs.Steps.Boxes.{AreBlocks}
 use Rattle.i_shape_contacts.proofs.blocks.blocks_of.Given as goal
 
 abbrev pub invariant-loop-rank : goal.invariant-loop-rank

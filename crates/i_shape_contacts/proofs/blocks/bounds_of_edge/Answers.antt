@@ -1,8 +1,8 @@
 use Rattle.std.proofs.Common.{ℕ, subst, sym}
 use Rattle.i_shape_core.specs.IntPoint.{contour_of}
 use Rattle.i_shape_core.specs.Contour.{point_at}
-use Rattle.i_shape_core.proofs.plane.PointLists.{read-length}
-use Rattle.i_shape_contacts.specs.Boxes.{Holds}
+use Rattle.i_shape_core.proofs.Plane.PointLists.{read-length}
+use Rattle.i_shape_contacts.specs.Steps.Boxes.{Holds}
 use Rattle.i_shape_contacts.proofs.blocks.bounds_of_edge.Goals as goal
 
 pub returns : goal.returns

@@ -1,9 +1,9 @@
 use Rattle.std.proofs.Common.{◌<◌, ◌≤◌, ℕ, length, arith, inl, inr, subst, sym}
 use Rattle.std.proofs.lemmas.Bool.{cases_eq}
 use Rattle.i_shape_core.specs.IntPoint.{contour_of}
-use Rattle.i_shape_core.proofs.plane.PointLists.{read-length}
+use Rattle.i_shape_core.proofs.Plane.PointLists.{read-length}
 use Rattle.i_shape_contacts.specs.Contacts.{IsContactBy}
-use Rattle.i_shape_contacts.specs.Boxes.{IsBlock}
+use Rattle.i_shape_contacts.specs.Steps.Boxes.{IsBlock}
 use Rattle.i_shape_contacts.proofs.BlockSteps.{least_further, least_more}
 use Rattle.i_shape_contacts.proofs.blocks.contact_after.Goals as goal
 

@@ -1,6 +1,6 @@
 use Rattle.std.proofs.Common.{ℕ, ◌<◌, ◌≤◌}
 use Rattle.i_shape_core.specs.IntPoint.{contour_of}
-use Rattle.i_shape_contacts.specs.Boxes.{HoldsEdge}
+use Rattle.i_shape_contacts.specs.Steps.Boxes.{HoldsEdge}
 use Rattle.i_shape_contacts.proofs.chunks.bounds_of_chunk.Given as goal
 
 abbrev pub invariant-loop-rank : goal.invariant-loop-rank

@@ -1,50 +1,18 @@
-use Rattle.std.proofs.Common.{◌<◌, length, arith, subst, sym}
-use Rattle.i_shape_core.specs.IntPoint.{contour_of}
-use Rattle.i_shape_contacts.specs.Boxes.{IsBlock}
-use Rattle.i_shape_contacts.proofs.ChunkSteps.{chunk_further, chunk_more}
+use Rattle.std.proofs.Common.{arith, inl, inr}
+use Rattle.std.proofs.lemmas.Bool.{cases_lt}
 use Rattle.i_shape_contacts.proofs.chunks.does_chunk_touch.Goals as goal
 
 pub loop-rank-init : goal.loop-rank-init
-loop-rank-init g c = record { past = omega arith; none = λ k r h l f n. absurd (omega (arith, f, n)) }
+loop-rank-init g c = λ k r h l. absurd (omega (arith, h, l))
 
 pub loop-rank-preserved : goal.loop-rank-preserved
-loop-rank-preserved g c =
-    let value = g.P.Coordinate.IntNumber.value in
-    let list = contour_of value (g.P.ContourPoint.points c.args.points.now) in
-    let past = c.loop-rank.invariant.past in
-    record {
-      past = omega (arith, past);
-      none = chunk_more value (g.C.Course.follows c.args.course) list (g.O.Order.edge_at c.args.order) c.args.from c.args.to c.loop-rank.rank c.loop-rank.invariant.none (c.touches_chunk.ensures c.if-touches_chunk.false);
-    }
-
-pub loop-rank-preserved-then-are_apart : goal.loop-rank-preserved-then-are_apart
-loop-rank-preserved-then-are_apart g c =
-    let value = g.P.Coordinate.IntNumber.value in
-    let list = contour_of value (g.P.ContourPoint.points c.args.points.now) in
-    let rank = c.loop-rank.rank in
-    let same = c.requires.blocks_count in
-    let test = c.loop-rank-test.true in
-    let past = c.loop-rank.invariant.past in
-    let within : rank < length c.args.blocks.now = omega (arith, same, test) in
-    let block : IsBlock value (g.C.Course.follows c.args.course) list (g.O.Order.edge_at c.args.order) rank c.index-blocks-rank.result = subst (IsBlock value (g.C.Course.follows c.args.course) list (g.O.Order.edge_at c.args.order) rank) (sym c.index-blocks-rank.is) (c.requires.are_blocks rank c.index-blocks-rank.result (omega arith) within) in
-    let further = block.further in
-    record {
-      past = omega (arith, past, further);
-      none = chunk_further value (g.C.Course.follows c.args.course) list (g.O.Order.edge_at c.args.order) c.bounds_of_chunk-bounds.result c.index-blocks-rank.result c.args.from c.args.to rank (c.are_apart.ensures.0 c.if-are_apart.true) c.bounds_of_chunk-bounds.ensures block c.loop-rank.invariant.none;
-    }
-
-pub loop-rank-smaller-then-are_apart : goal.loop-rank-smaller-then-are_apart
-loop-rank-smaller-then-are_apart g c =
-    let value = g.P.Coordinate.IntNumber.value in
-    let list = contour_of value (g.P.ContourPoint.points c.args.points.now) in
-    let rank = c.loop-rank.rank in
-    let same = c.requires.blocks_count in
-    let test = c.loop-rank-test.true in
-    let past = c.loop-rank.invariant.past in
-    let within : rank < length c.args.blocks.now = omega (arith, same, test) in
-    let block : IsBlock value (g.C.Course.follows c.args.course) list (g.O.Order.edge_at c.args.order) rank c.index-blocks-rank.result = subst (IsBlock value (g.C.Course.follows c.args.course) list (g.O.Order.edge_at c.args.order) rank) (sym c.index-blocks-rank.is) (c.requires.are_blocks rank c.index-blocks-rank.result (omega arith) within) in
-    let further = block.further in
-    omega (arith, further)
+loop-rank-preserved g c = λ k r h l f n o w. elim (cases_lt k c.loop-rank.rank) [
+  | inl s ↦ c.loop-rank.invariant k r h s f n o w
+  | inr s ↦ c.touches_between.ensures c.if-touches_between.false k r s l (omega (arith, s, o)) n o w
+]
 
 pub returns : goal.returns
-returns g c = λ e k r h l f n w. let past = c.loop-rank-test.false in c.loop-rank.invariant.none k r h l f (omega (arith, past, n)) w
+returns g c = λ e k r h l f n o w. elim (cases_lt r c.args.to) [
+  | inl s ↦ (let past = c.loop-rank-test.false in c.loop-rank.invariant k r h (omega (arith, past, l)) f s o w)
+  | inr s ↦ c.touches_between-2.ensures e k r h l s n o w
+]

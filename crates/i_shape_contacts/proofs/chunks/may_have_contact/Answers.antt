@@ -1,17 +1,16 @@
 use Rattle.std.proofs.Common.{length, arith}
 use Rattle.i_shape_core.specs.IntPoint.{contour_of}
-use Rattle.i_shape_core.proofs.plane.PointLists.{read-length}
+use Rattle.i_shape_core.proofs.Plane.PointLists.{read-length}
 use Rattle.i_shape_contacts.proofs.ChunkSteps.{chunks_more, no_ranks}
 use Rattle.i_shape_contacts.proofs.chunks.may_have_contact.Goals as goal
-use Rattle.i_shape_contacts.proofs.chunks.may_have_contact.Goals.{then-points-from-gt-CHUNK, else-points-from-gt-CHUNK}
 
 pub loop-from-preserved : goal.loop-from-preserved
 loop-from-preserved g c =
     let value = g.P.Coordinate.IntNumber.value in
     let list = contour_of value (g.P.ContourPoint.points c.args.points.now) in
     record {
-      within = elim c.if-points-from-gt-CHUNK.branch [ then-points-from-gt-CHUNK w ↦ omega arith | else-points-from-gt-CHUNK w ↦ omega arith ];
-      none = chunks_more value (g.C.Course.follows c.args.course) list (g.O.Order.edge_at c.args.order) c.loop-from.from c.if-points-from-gt-CHUNK.to (length c.args.points.now) c.loop-from.invariant.none (c.does_chunk_touch.ensures c.if-does_chunk_touch.false);
+      within = c.chunk_end-to.ensures.within;
+      none = chunks_more value (g.C.Course.follows c.args.course) list (g.O.Order.edge_at c.args.order) c.loop-from.from c.chunk_end-to.result (length c.args.points.now) c.loop-from.invariant.none (c.does_chunk_touch.ensures c.if-does_chunk_touch.false);
     }
 
 pub returns : goal.returns

@@ -1,6 +1,6 @@
 use Rattle.std.proofs.Common.{◌+◌}
 use Rattle.i_shape_core.specs.IntPoint.{contour_of}
-use Rattle.i_shape_contacts.specs.Chunks.{NoneTouch}
+use Rattle.i_shape_contacts.specs.Steps.Chunks.{NoneTouch}
 use Rattle.i_shape_contacts.proofs.chunks.touches_chunk.Given as goal
 
 abbrev pub invariant-loop-rank : goal.invariant-loop-rank

@@ -1,7 +1,7 @@
 use Rattle.std.proofs.Common.{◌≡◌, ◌<◌, ◌≤◌, ◌+◌, ◌-◌, ℕ, List, length, refl, arith, subst, ap, ◌∙◌, inl, inr}
 use Rattle.std.proofs.lemmas.Bool.{cases_lt}
 use Rattle.i_shape_core.specs.Rings.{offset}
-use Rattle.i_shape_core.proofs.lists.Rings.{rises_to}
+use Rattle.i_shape_core.proofs.Lists.Rings.{rises_to}
 use Rattle.i_shape_contacts.specs.Courses.{Divides}
 use Rattle.i_shape_contacts.proofs.Courses.{after_unique}
 use Rattle.i_shape_contacts.proofs.course.next_in_ring.Goals as goal

@@ -1,5 +1,5 @@
 use Rattle.std.proofs.Common.{◌≡◌, ◌+◌, ◌<◌, ◌∙◌, suc, arith, sym}
-use Rattle.i_shape_core.proofs.removal.Places.{after_earlier, after_last}
+use Rattle.i_shape_core.proofs.Removal.Places.{after_earlier, after_last}
 use Rattle.i_shape_contacts.proofs.course.next_place.Goals as goal
 
 pub returns-then-next-count : goal.returns-then-next-count

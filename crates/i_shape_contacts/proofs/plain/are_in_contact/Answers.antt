@@ -1,6 +1,6 @@
 use Rattle.std.proofs.Common.{◌↔◌, IsTrue, Bool, true, false, not, refl}
 use Rattle.i_shape_core.specs.IntPoint.{contour_of}
-use Rattle.i_shape_core.proofs.plane.PointLists.{read-length}
+use Rattle.i_shape_core.proofs.Plane.PointLists.{read-length}
 use Rattle.i_shape_contacts.proofs.ContactTests.{share_next, share_round, share_apart, share_both, contact_shared}
 use Rattle.i_shape_contacts.proofs.plain.are_in_contact.Goals as goal
 

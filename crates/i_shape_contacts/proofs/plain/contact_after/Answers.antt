@@ -1,7 +1,7 @@
 use Rattle.std.proofs.Common.{IsTrue, arith, below_more, inl, inr}
 use Rattle.std.proofs.lemmas.Bool.{cases_lt}
 use Rattle.i_shape_core.specs.IntPoint.{contour_of}
-use Rattle.i_shape_core.proofs.plane.PointLists.{read-length}
+use Rattle.i_shape_core.proofs.Plane.PointLists.{read-length}
 use Rattle.i_shape_contacts.proofs.plain.contact_after.Goals as goal
 
 pub loop-second-init : goal.loop-second-init

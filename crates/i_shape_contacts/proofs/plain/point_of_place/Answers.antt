@@ -1,4 +1,4 @@
-use Rattle.i_shape_core.proofs.walks.Turning.{placed}
+use Rattle.i_shape_core.proofs.Walks.Turning.{placed}
 use Rattle.i_shape_contacts.proofs.plain.point_of_place.Goals as goal
 
 pub returns : goal.returns

@@ -1,4 +1,4 @@
-use Rattle.i_shape_core.proofs.plane.Contours.{points_decided}
+use Rattle.i_shape_core.proofs.Plane.Contours.{points_decided}
 use Rattle.i_shape_contacts.proofs.segments.are_equal.Goals as goal
 
 pub returns : goal.returns

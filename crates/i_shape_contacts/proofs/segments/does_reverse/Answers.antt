@@ -1,5 +1,5 @@
 use Rattle.std.proofs.Common.{ap}
-use Rattle.i_shape_core.proofs.arithmetic.Coordinates.{safe_vector-above}
+use Rattle.i_shape_core.proofs.Arithmetic.Coordinates.{safe_vector-above}
 use Rattle.i_shape_contacts.proofs.segments.does_reverse.Goals as goal
 
 pub dot_product-requires : goal.dot_product-requires

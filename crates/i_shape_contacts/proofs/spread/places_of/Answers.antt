@@ -1,6 +1,6 @@
 use Rattle.std.proofs.Common.{◌<◌, ◌∙◌, ◌++◌, [], ◌∷◌, ℕ, List, map, take, length, sym, ap, arith}
 use Rattle.std.proofs.lemmas.List.{map-append, take_more, take_all}
-use Rattle.i_shape_core.specs.declared.heights.Asked.{Asked}
+use Rattle.i_shape_core.specs.declared.measure.heights.Asked.{Asked}
 use Rattle.i_shape_contacts.proofs.spread.places_of.Goals as goal
 
 pub loop-it-preserved : goal.loop-it-preserved

@@ -1,7 +1,7 @@
 use Rattle.std.proofs.Common.{ℕ, List, length, get_or, sym, ap, subst, ◌∙◌}
 use Rattle.std.proofs.lemmas.Result.{IfOk-weaker}
-use Rattle.i_shape_core.proofs.plane.PointLists.{points-length}
-use Rattle.i_shape_contacts.specs.Orders.{IsOrder}
+use Rattle.i_shape_core.proofs.Plane.PointLists.{points-length}
+use Rattle.i_shape_contacts.specs.Steps.Orders.{IsOrder}
 use Rattle.i_shape_contacts.proofs.Orders.{places, order_of}
 use Rattle.i_shape_contacts.proofs.spread.spread_places.Goals as goal
 

@@ -1,5 +1,5 @@
 use Rattle.std.proofs.Common.{ℕ, List, length, get_or, sym, subst}
-use Rattle.i_shape_contacts.specs.Orders.{IsOrder}
+use Rattle.i_shape_contacts.specs.Steps.Orders.{IsOrder}
 use Rattle.i_shape_contacts.proofs.spread.try_first.Goals as goal
 
 pub blocks_of-requires-clause-ordered : goal.blocks_of-requires-clause-ordered

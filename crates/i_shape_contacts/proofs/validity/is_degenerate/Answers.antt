@@ -1,6 +1,6 @@
 use Rattle.std.proofs.Common.{arith, length, inl, inr}
 use Rattle.std.proofs.lemmas.Bool.{lt-ltb}
-use Rattle.i_shape_core.proofs.plane.PointLists.{read-length}
+use Rattle.i_shape_core.proofs.Plane.PointLists.{read-length}
 use Rattle.i_shape_contacts.proofs.validity.is_degenerate.Goals as goal
 
 pub returns-then-ring-lt3 : goal.returns-then-ring-lt3

@@ -1,6 +1,6 @@
 use Rattle.std.proofs.Common.{length, ap, arith}
 use Rattle.i_shape_core.specs.IntPoint.{contour_of}
-use Rattle.i_shape_core.proofs.plane.PointLists.{read-length}
+use Rattle.i_shape_core.proofs.Plane.PointLists.{read-length}
 use Rattle.i_shape_contacts.proofs.Faults.{divides_read}
 use Rattle.i_shape_contacts.proofs.Nesting.{outside_at, some_point}
 use Rattle.i_shape_contacts.proofs.validity.is_outside.Goals as goal

@@ -1,7 +1,7 @@
 use Rattle.std.proofs.Common.{◌≡◌, ℕ, not, eqb, IsTrue, length, ap, subst, arith}
 use Rattle.std.proofs.lemmas.Bool.{eq-eqb}
 use Rattle.i_shape_core.specs.IntPoint.{contour_of}
-use Rattle.i_shape_core.proofs.plane.PointLists.{read-length}
+use Rattle.i_shape_core.proofs.Plane.PointLists.{read-length}
 use Rattle.i_shape_contacts.proofs.Faults.{divides_read, untrue}
 use Rattle.i_shape_contacts.proofs.Nesting.{within_at, some_point}
 use Rattle.i_shape_contacts.proofs.validity.is_within.Goals as goal

@@ -1,6 +1,6 @@
 use Rattle.std.proofs.Common.{◌+◌, ◌-◌, length, sym, ap, subst, ◌∙◌, arith, All}
 use Rattle.i_shape_core.specs.IntPoint.{contour_of, IsSafe}
-use Rattle.i_shape_core.proofs.lists.Rings.{rises_to}
+use Rattle.i_shape_core.proofs.Lists.Rings.{rises_to}
 use Rattle.i_shape_contacts.proofs.Faults.{read-part, All-part}
 use Rattle.i_shape_contacts.proofs.validity.ring_at.Goals as goal
 

@@ -1,0 +1,12 @@
+-- Contacts of edges in an order, whichever of two comes first.
+use Rattle.std.specs.Prelude.{◌<◌, ◌≤◌, ℕ, List, ◌⊎◌}
+use Rattle.i_shape_core.specs.Point.{Point}
+use Rattle.i_shape_contacts.specs.Contacts.{IsContactBy}
+
+-- two edges are in contact, whichever comes first
+abbrev pub Touch : (ℕ → ℕ → Type 0) → List Point → ℕ → ℕ → Type 0
+Touch Follows c a b = IsContactBy Follows c a b ⊎ IsContactBy Follows c b a
+
+-- no edge at a rank from `from` to below `to` touches one at a rank after it, from `least` to below `most`
+abbrev pub NoneTouch : (ℕ → ℕ → Type 0) → List Point → (ℕ → ℕ) → ℕ → ℕ → ℕ → ℕ → Type 0
+NoneTouch Follows c at from to least most = (k r : ℕ) → from ≤ k → k < to → least ≤ r → r < most → k < r → Touch Follows c (at k) (at r) → ⊥
