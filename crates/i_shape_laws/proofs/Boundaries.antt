@@ -1,22 +1,22 @@
--- The points on the edges of a contour, where zero turns are taken out.
+-- Removing zero turns adds no point to the edges of a contour.
 use Rattle.std.proofs.Common.{◌≡◌, ◌⊎◌, ℕ, ◌+◌, ◌<◌, List, [], ◌∷◌, length, remove, pos, ◌+ℤ◌, ◌*ℤ◌, ◌≤ℤ◌, ◌<ℤ◌, neg_ℤ, ◌≢◌, subst₂, refl, sym, subst, ◌∙◌, arith, inl, inr}
 use Rattle.std.proofs.lemmas.Int.{ints, by_lt_z}
 use Rattle.std.proofs.lemmas.List.Edits.{length-remove}
 use Rattle.i_shape_core.specs.Point.{Point, cross, dot, IsZeroTurn}
 use Rattle.i_shape_core.specs.Contour.{point_at, place_before, place_after, Reach, stay, step}
-use Rattle.i_shape_core.proofs.arithmetic.Polynomials.{plus, times, minus, by_polynomials}
-use Rattle.i_shape_core.proofs.plane.CrossProducts.{coordinates, cross_term, dot_term, A, B, C, D, zero_slides, triangle_identity, zero_reversed}
-use Rattle.i_shape_core.proofs.arithmetic.WholeNumbers.{not_positive_of, drop_last}
-use Rattle.i_shape_core.proofs.removal.Places.{Follows, Stood, after_is, before_from, place_stood, stood_point, stood_within, follows_over}
+use Rattle.i_shape_core.proofs.Arithmetic.Polynomials.{plus, times, minus, by_polynomials}
+use Rattle.i_shape_core.proofs.Plane.CrossProducts.{coordinates, cross_term, dot_term, A, B, C, D, zero_slides, triangle_identity, zero_reversed}
+use Rattle.i_shape_core.proofs.Arithmetic.WholeNumbers.{not_positive_of, drop_last}
+use Rattle.i_shape_core.proofs.Removal.Places.{Follows, Stood, after_is, before_from, place_stood, stood_point, stood_within, follows_over}
 use Rattle.i_shape_core.specs.Moves.{moved_point, moved, scaling}
 use Rattle.i_shape_core.specs.Boundary.{IsBetween, IsOnEdge}
-use Rattle.i_shape_core.proofs.plane.Back.{way_squared, square_term, dot_same-first, cross_same-first}
-use Rattle.i_shape_core.proofs.moved.Mapped.{reach_mapped}
-use Rattle.i_shape_core.proofs.moved.ZeroTurns.{zero_moved}
+use Rattle.i_shape_core.proofs.Plane.Back.{way_squared, square_term, dot_same-first, cross_same-first}
+use Rattle.i_shape_core.proofs.Moved.Mapped.{reach_mapped}
+use Rattle.i_shape_core.proofs.Moved.ZeroTurns.{zero_moved}
 use Rattle.i_shape_laws.specs.Moved.{BoundaryWithin}
-use Rattle.i_shape_laws.proofs.moved.Back.{no_way}
+use Rattle.i_shape_laws.proofs.Moved.Back.{no_way}
 
--- with the ways from a to p, from p to b and from p to q
+-- the negative of `dot q p b` times the squared distance of a and p, by the dot and cross products at p from a
 two_ways : (a p q b : Point) → dot a p b *ℤ dot a p q +ℤ cross a p q *ℤ cross a p b ≡ way_squared a p *ℤ neg_ℤ (dot q p b)
 unfolding way_squared cross dot
 two_ways a p q b = by_polynomials (coordinates (a ∷ p ∷ q ∷ b ∷ []))
@@ -31,7 +31,7 @@ back_again a p = by_polynomials (coordinates (a ∷ p ∷ [])) (dot_term A B A) 
 at_start : (a q : Point) → IsBetween a a q
 at_start a q = record { straight = cross_same-first a q; ahead = let e = dot_same-first a q in omega (arith, ints) }
 
--- where a, q and b lie on one line, the edge from a to b lies within those from a to q and from q to b
+-- if a, q and b are collinear, each point of the edge ab is on aq or on qb
 pub between_two : (a p q b : Point) → cross a q b ≡ pos 0 → IsBetween a p b → IsBetween a p q ⊎ IsBetween q p b
 between_two a p q b z w = by_lt_z (pos 0) (way_squared a p) apart (λ h. inl (subst (λ (x : Point). IsBetween a x q) (no_way a p h) (at_start a q)))
   where
@@ -104,6 +104,6 @@ boundary_within c d stay p w = w
 boundary_within c d (step {d = m} s r) p w =
     without_point c s.place p s.removable.passes s.removable.within (subst (λ (l : List Point). IsOnEdge l p) s.left (boundary_within m d r p w))
 
--- removals of zero turns add no point to the edges of a contour
+-- the same of points with rational coordinates
 pub boundary_laws : (c d : List Point) → BoundaryWithin c d
 boundary_laws c d r n = boundary_within (moved (scaling n) c) (moved (scaling n) d) (reach_mapped (moved_point (scaling n)) (zero_moved (scaling n)) r)

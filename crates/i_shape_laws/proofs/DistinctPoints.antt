@@ -1,21 +1,21 @@
--- Parts of a list without repeated points are determined by their points.
+-- A sublist of a list without repeated points is determined by its points.
 use Rattle.std.proofs.Common.{◌≡◌, ◌⊎◌, List, [], ◌∷◌, ◌++◌, inl, inr, refl, sym, ap, ◌∙◌, subst, arith}
 use Rattle.i_shape_core.specs.Point.{Point}
 use Rattle.i_shape_core.specs.Contour.{Sublist, Rotation, SameEnd, collapsed, rotated}
 use Rattle.i_shape_laws.specs.Ends.{IsIn, Distinct, OneCertainEnd}
-use Rattle.i_shape_core.proofs.lists.Sublists.{sublist_reached}
-use Rattle.i_shape_core.proofs.removal.ZeroTurns.{one_end}
+use Rattle.i_shape_core.proofs.Lists.Sublists.{sublist_reached}
+use Rattle.i_shape_core.proofs.Removal.ZeroTurns.{one_end}
 
 in_whole : (x : Point) (c d : List Point) → Sublist c d → IsIn x d → IsIn x c
 in_whole x [] d s h = subst (IsIn x) s h
 in_whole x (p ∷ c) d (inl s) h = inr (in_whole x c d s h)
 in_whole x (p ∷ c) d (inr (e, is, s)) h = elim (subst (IsIn x) is h) [ inl same ↦ inl same | inr later ↦ inr (in_whole x c e s later) ]
 
--- the points of d are all points of e, also without the first of both
+-- if p isn't in d, and each point of p ∷ d is in p ∷ e, each point of d is in e
 inner : (p : Point) (c d e : List Point) → (IsIn p c → ⊥) → Sublist c d → ((x : Point) → IsIn x (p ∷ d) → IsIn x (p ∷ e)) → (x : Point) → IsIn x d → IsIn x e
 inner p c d e n s f x h = elim (f x (inr h)) [ inl k ↦ absurd (n (subst (λ (y : Point). IsIn y c) k (in_whole x c d s h))) | inr k ↦ k ]
 
--- two sublists with the same points are one list
+-- sublists of such a list with the same points are equal
 same_parts : (c d e : List Point) → Distinct c → Sublist c d → Sublist c e → ((x : Point) → IsIn x d → IsIn x e) → ((x : Point) → IsIn x e → IsIn x d) → d ≡ e
 same_parts [] d e n s t f g = s ∙ sym t
 same_parts (p ∷ c) d e n (inl s) (inl t) f g = same_parts c d e n.1 s t f g
@@ -46,7 +46,7 @@ in_rotated x u t h = elim (in_either x u t h) [ inl a ↦ in_right x t u a | inr
 in_rotation : {c d : List Point} → Rotation c d → (x : Point) → IsIn x c → IsIn x d
 in_rotation r x h = subst (λ (y : List Point). IsIn x y) (sym r.after) (in_rotated x r.front r.back (subst (λ (y : List Point). IsIn x y) r.before h))
 
--- of a contour without repeated points there is one end as a list
+-- a contour without repeated points has one end as a list
 pub one_certain_end : (c : List Point) → OneCertainEnd c
 one_certain_end c n e f a h b = go (one_end c e f a b)
   where

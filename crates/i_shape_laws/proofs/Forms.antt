@@ -1,14 +1,14 @@
--- Contours that are joined to others: how short they are.
+-- How short joined contours are.
 use Rattle.std.proofs.Common.{◌≤◌, List, length, arith}
 use Rattle.i_shape_core.specs.Point.{Point, IsZeroTurn}
 use Rattle.i_shape_core.specs.Contour.{End, SameEnd, collapsed, rotated}
 use Rattle.i_shape_laws.specs.Ends.{Shortest}
-use Rattle.i_shape_core.proofs.removal.Rotations.{rotation_length}
-use Rattle.i_shape_core.proofs.removal.Ends.{has_end, reach_shrinks}
-use Rattle.i_shape_core.proofs.removal.ZeroTurns.{zero_turn_slides, zero_turn_decided}
-use Rattle.i_shape_core.proofs.forms.Canonical.{joined_first, joined_sym, ends_of_joined}
+use Rattle.i_shape_core.proofs.Removal.Rotations.{rotation_length}
+use Rattle.i_shape_core.proofs.Removal.Ends.{has_end, reach_shrinks}
+use Rattle.i_shape_core.proofs.Removal.ZeroTurns.{zero_turn_slides, zero_turn_decided}
+use Rattle.i_shape_core.proofs.Forms.Canonical.{joined_first, joined_sym, ends_of_joined}
 
--- an end of a contour is as short as any that is joined to it
+-- no contour joined to c is shorter than an end of c
 pub end_is_shortest : (c d : List Point) → Shortest c d
 end_is_shortest c d j e a = same (ends_of_joined zero_turn_slides zero_turn_decided j a f.1)
   where

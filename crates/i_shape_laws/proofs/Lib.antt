@@ -7,6 +7,8 @@ pub mod Windings
 -- what fill rules fill
 pub mod Fillings
 -- contours that are moved by an affine map
-pub mod moved
+pub mod Moved
 -- the points on the edges
 pub mod Boundaries
+-- simple and valid polygons
+pub mod Polygons

@@ -1,4 +1,4 @@
--- How often a contour winds: the parity of the winding number, and its laws.
+-- The parity of the winding number, and its laws.
 use Rattle.std.proofs.Common.{◌≡◌, ℕ, ◌%◌, List, [], ◌∷◌, ℤ, pos, negsuc, ◌+ℤ◌, neg_ℤ, refl, sym, ◌∙◌, arith, ◌↔◌, Bool, true, false, cond, int_lt, count_by, unsigned_abs}
 use Rattle.std.proofs.lemmas.Int.{ints}
 use Rattle.std.proofs.lemmas.List.Sums.{sum_by-cons}
@@ -6,13 +6,13 @@ use Rattle.i_shape_core.specs.Point.{Point, cross}
 use Rattle.i_shape_core.specs.Edges.{Edge, edges, sum_of, is_right, Inside}
 use Rattle.i_shape_core.specs.Winding.{winding_of_edge, winding, IsOdd}
 use Rattle.i_shape_laws.specs.Windings.{WindingKept, WindingRotated}
-use Rattle.i_shape_core.proofs.plane.CrossProducts.{edge}
-use Rattle.i_shape_core.proofs.measure.Inside.{right_when}
-use Rattle.i_shape_core.proofs.measure.RotatedEdges.{same_sum}
-use Rattle.i_shape_core.proofs.measure.Windings.{bit, flat, goes_up, goes_down, winding_kept, winding_none, winding_reversed}
+use Rattle.i_shape_core.proofs.Plane.CrossProducts.{edge}
+use Rattle.i_shape_core.proofs.Sums.Inside.{right_when}
+use Rattle.i_shape_core.proofs.Sums.RotatedEdges.{same_sum}
+use Rattle.i_shape_core.proofs.Sums.Windings.{bit, flat, goes_up, goes_down, winding_kept, winding_none, winding_reversed}
 
 -- ---- parity
--- a number and a count that differ by an even number
+-- z and n differ by an even number
 record Passed (z : ℤ) (n : ℕ) : Type 0 where
   half : ℤ
   is : pos n ≡ z +ℤ (half +ℤ half)
@@ -45,7 +45,7 @@ odd : (z : ℤ) (n : ℕ) → Passed z n → unsigned_abs z % 2 ≡ n % 2
 odd (pos k) n w = omega (arith, ints, w.is)
 odd (negsuc k) n w = omega (arith, ints, w.is)
 
--- a point is inside where the contour winds about it an odd number of times
+-- a point is inside exactly if its winding number is odd
 pub winding_parity : (c : List Point) (p : Point) → Inside c p ↔ IsOdd (winding c p)
 unfolding winding Inside
 winding_parity c p = let e = odd _ _ (passed_edges p (edges c)) in (λ h. e ∙ h, λ h. sym e ∙ h)
@@ -54,7 +54,7 @@ winding_parity c p = let e = odd _ _ (passed_edges p (edges c)) in (λ h. e ∙ 
 pub winding_laws : (c d : List Point) → WindingKept c d
 winding_laws c d = record { kept = winding_kept c d; none = winding_none c }
 
--- a contour winds as often from each start, and as often the other way backwards
+-- rotation keeps the winding numbers, reading backwards negates them
 pub rotated_laws : (c d : List Point) → WindingRotated c d
 unfolding winding
 rotated_laws c d = record { rotated = λ r p. same_sum (winding_of_edge p) c d r; backwards = winding_reversed c }

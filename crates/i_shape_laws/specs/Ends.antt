@@ -18,11 +18,11 @@ Distinct (p ∷ c) = (IsIn p c → ⊥) × Distinct c
 abbrev pub OneCertainEnd : List Point → Type 0
 OneCertainEnd c = Distinct c → (e f : List Point) → End IsZeroTurn c e → 3 ≤ length e → End IsZeroTurn c f → f ≡ e
 
--- no contour that is joined to c has fewer points than an end of c
+-- no contour joined to c has fewer points than an end of c
 abbrev pub Shortest : List Point → List Point → Type 0
 Shortest c d = Joined IsZeroTurn c d → (e : List Point) → End IsZeroTurn c e → length e ≤ length d
 
--- if two contours have unoriented forms, these are equal exactly where the contours are joined, or one to the other
--- reversed
+-- the unoriented forms of two contours, if both have one, are equal exactly if the contours are joined, or one to the
+-- other reversed
 abbrev pub UnorientedJoined : List Point → List Point → Type 0
 UnorientedJoined c d = (l m : List Point) → UnorientedAnswer c (Some l) → UnorientedAnswer d (Some m) → (l ≡ m) ↔ JoinedEitherWay c d

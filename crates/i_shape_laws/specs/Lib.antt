@@ -1,3 +1,4 @@
 pub mod Ends
 pub mod Windings
 pub mod Moved
+pub mod Contacts

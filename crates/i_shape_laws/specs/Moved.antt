@@ -7,8 +7,8 @@ use Rattle.i_shape_core.specs.Moves.{Move, determinant, moved_point, moved, scal
 use Rattle.i_shape_core.specs.Winding.{winding}
 use Rattle.i_shape_core.specs.Boundary.{IsOnEdge}
 
--- if a move keeps different points apart, a contour and the moved one reach the same contours, moved, and have the same
--- ends, moved, also if only points at which the path turns back are removed, and the same results of a cleaner, moved
+-- a contour and the moved one reach the same contours, moved, and have the same ends, moved, also if only back vertices
+-- are removed, and the same results of a cleaner, moved
 pub record MovedAlike (m : Move) (c : List Point) : Type 0 where
   pub reached : (d : List Point) → Reach IsZeroTurn c d ↔ Reach IsZeroTurn (moved m c) (moved m d)
   pub ends : (e : List Point) → End IsZeroTurn c e ↔ End IsZeroTurn (moved m c) (moved m e)
@@ -22,7 +22,7 @@ pub record WindingMoved (m : Move) (c : List Point) (p : Point) : Type 0 where
   pub kept : pos 0 <ℤ determinant m → winding (moved m c) (moved_point m p) ≡ winding c p
   pub mirrored : determinant m <ℤ pos 0 → winding (moved m c) (moved_point m p) ≡ neg_ℤ (winding c p)
 
--- removals add no point to the edges; n is a common denominator other than 0: the point with the coordinates p.x / n
--- and p.y / n lies on an edge of c where p lies on an edge of c scaled by n
+-- removals add no point to the edges; for n other than 0, the point with the coordinates p.x / n and p.y / n lies on an
+-- edge of c exactly if p lies on an edge of c scaled by n
 abbrev pub BoundaryWithin : List Point → List Point → Type 0
 BoundaryWithin c d = Reach IsZeroTurn c d → (n : ℤ) (p : Point) → IsOnEdge (moved (scaling n) d) p → IsOnEdge (moved (scaling n) c) p

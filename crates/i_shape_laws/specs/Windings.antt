@@ -7,14 +7,14 @@ use Rattle.i_shape_core.specs.Survivors.{Survivors}
 use Rattle.i_shape_core.specs.Winding.{winding, shape_winding}
 use Rattle.i_shape_core.specs.Filling.{IsFilled}
 use Rattle.i_shape_core.specs.Moves.{moved, scaling}
-use Rattle.i_shape_core.specs.declared.fill_rule.FillRule.{FillRule}
+use Rattle.i_shape_core.specs.declared.measure.fill_rule.FillRule.{FillRule}
 
--- removals keep the winding number about each point; with fewer than three points it is 0
+-- removals keep the winding number about each point; for fewer than three points it is 0
 pub record WindingKept (c d : List Point) : Type 0 where
   pub kept : Reach IsZeroTurn c d → (p : Point) → winding c p ≡ winding d p
   pub none : length c < 3 → (p : Point) → winding c p ≡ pos 0
 
--- a contour has the same winding numbers from whichever point it starts, and the opposite ones reversed
+-- rotation keeps the winding number about each point, reversal negates it
 pub record WindingRotated (c d : List Point) : Type 0 where
   pub rotated : Rotation c d → (p : Point) → winding c p ≡ winding d p
   pub backwards : (p : Point) → winding (reverse c) p ≡ neg_ℤ (winding c p)
@@ -24,6 +24,6 @@ pub record WindingRotated (c d : List Point) : Type 0 where
 abbrev pub WindingBetween : List Point → List Point → Type 0
 WindingBetween c d = Reach IsZeroTurn c d → (n : ℤ) (p : Point) → winding (moved (scaling n) c) p ≡ winding (moved (scaling n) d) p
 
--- if each contour is left with what it keeps, or left out if its winding numbers are 0, each rule fills the same points
+-- if each contour leaves what keeps its measures, or nothing if it is flat, each rule fills the same points
 abbrev pub FillingKept : List (List Point) → List (List Point) → Type 0
 FillingKept contours left = Survivors KeptAnswer contours left → (rule : FillRule) (p : Point) → IsFilled rule (shape_winding contours p) ↔ IsFilled rule (shape_winding left p)

@@ -1,10 +1,10 @@
-//! Laws on which no call rests: of the ends of a contour, winding numbers, fill rules, points on edges, and contours
-//! moved by an affine map. Each function takes the contours that its law names, or none if it is about all lists of
-//! points, does nothing, and has only the law as its clause. The points needn't be safe. The laws behind the contracts
-//! of the cleaners are functions of `i_shape_core::laws`.
+//! Laws on which no call rests: of the ends of a contour, winding numbers, fill rules, points on edges, contacts of
+//! edges, and contours moved by an affine map. Each function takes the contours that its law names, or none if it is
+//! about all lists of points, does nothing, and has only the law as its clause. The points needn't be safe. The laws
+//! behind the contracts of the cleaners are functions of `i_shape_core::laws`.
 #![tactic(auto)]
 
-ghost use Rattle.std.specs.Prelude.{◌≢◌, ◌↔◌, pos, List};
+ghost use Rattle.std.specs.Prelude.{◌≢◌, ◌↔◌, pos, ℕ, List};
 ghost use Rattle.i_shape_core.specs.IntPoint.{contour_of};
 ghost use Rattle.i_shape_core.specs.Edges.{Inside};
 ghost use Rattle.i_shape_core.specs.Point.{Point};
@@ -13,6 +13,7 @@ ghost use Rattle.i_shape_core.specs.Laws.{EveryOrder};
 ghost use Rattle.i_shape_core.specs.Moves.{Move, determinant};
 ghost use Rattle.i_shape_core.specs.Winding.{winding, IsOdd};
 ghost use Rattle.i_shape_laws.specs.Ends.{OneCertainEnd, Shortest, UnorientedJoined};
+ghost use Rattle.i_shape_laws.specs.Contacts.{SimplePolygonKept, ValidPolygonKept};
 ghost use Rattle.i_shape_laws.specs.Windings.{WindingKept, WindingRotated, WindingBetween, FillingKept};
 ghost use Rattle.i_shape_laws.specs.Moved.{BoundaryWithin, MovedAlike, WindingMoved};
 
@@ -37,7 +38,7 @@ pub fn shortest()
     ensures { (c d : List Point) → Shortest c d }
 {}
 
-/// Two contours that don't collapse have equal unoriented forms exactly where a chain as in
+/// Two contours that don't collapse have equal unoriented forms exactly if a chain as in
 /// `i_shape_core::laws::canonical_joined` joins them, or joins one to the other reversed.
 pub fn unoriented_joined<I: IntNumber>(_c: &[IntPoint<I>], _d: &[IntPoint<I>])
     ensures { UnorientedJoined (contour_of I.value _c.now) (contour_of I.value _d.now) }
@@ -49,7 +50,7 @@ pub fn winding_kept<I: IntNumber>(_c: &[IntPoint<I>], _d: &[IntPoint<I>])
     ensures { WindingKept (contour_of I.value _c.now) (contour_of I.value _d.now) }
 {}
 
-/// A point is inside exactly where the winding number about it is odd.
+/// A point is inside exactly if the winding number about it is odd.
 #[tactic(auto, using(crate::proofs::Windings::winding_parity))]
 pub fn winding_parity<I: IntNumber>(_c: &[IntPoint<I>])
     ensures { (p : Point) → Inside (contour_of I.value _c.now) p
@@ -63,7 +64,7 @@ pub fn winding_rotated<I: IntNumber>(_c: &[IntPoint<I>], _d: &[IntPoint<I>])
 {}
 
 /// Removing zero turns keeps the winding number about each point with rational coordinates.
-#[tactic(auto, using(i_shape_core::proofs::measure::RationalWindings::winding_between))]
+#[tactic(auto, using(i_shape_core::proofs::Sums::RationalWindings::winding_between))]
 pub fn winding_between()
     ensures { (c d : List Point) → WindingBetween c d }
 {}
@@ -81,9 +82,22 @@ pub fn boundary_within()
     ensures { (c d : List Point) → BoundaryWithin c d }
 {}
 
+/// Removing zero turns brings no two edges into contact. The boundary of a simple polygon stays one, and doesn't
+/// collapse: `simplified` returns the boundary of a simple polygon, and `despiked_contour` the contour itself.
+#[tactic(auto, using(crate::proofs::Polygons::kept_simple))]
+pub fn simple_polygon_kept()
+    ensures { (c : List Point) → SimplePolygonKept c }
+{}
+
+/// Removing zero turns of its rings leaves a valid polygon valid, and none of its rings collapses.
+pub fn valid_polygon_kept()
+    ensures { (offsets : List ℕ) (c : List Point) (left : List ℕ) (e : List Point)
+        → ValidPolygonKept offsets c left e }
+{}
+
 /// An affine map with integer coefficients and a determinant other than zero commutes with cleaning. Translations,
 /// reflections, quarter turns and scalings are such maps.
-#[tactic(auto, using(crate::proofs::moved::Laws::moved_laws))]
+#[tactic(auto, using(crate::proofs::Moved::Laws::moved_laws))]
 pub fn moved_alike()
     ensures { (m : Move) → determinant m ≢ pos 0 → (c : List Point) → MovedAlike m c }
 {}
@@ -91,7 +105,7 @@ pub fn moved_alike()
 /// A moved contour has the same winding number about a moved point as before, if the point is off the edges and the
 /// determinant of the map is positive, as for translations, scalings, quarter turns and shears. If the determinant is
 /// negative, as for reflections, the number changes sign.
-#[tactic(auto, using(crate::proofs::moved::Windings::winding_moved))]
+#[tactic(auto, using(crate::proofs::Moved::Windings::winding_moved))]
 pub fn winding_moved()
     ensures { (m : Move) (c : List Point) (p : Point) → (IsOnEdge c p → ⊥) → WindingMoved m c p }
 {}

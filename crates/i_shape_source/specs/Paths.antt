@@ -13,7 +13,7 @@ paths_of_shape shape = map (λ path. path.items) shape
 abbrev pub shape_lists : {P : Type 0} → List (Vec (Vec P)) → List (List (List P))
 shape_lists shapes = map (λ shape. paths_of_shape shape.items) shapes
 
--- lists end to end
+-- the lists concatenated
 abbrev pub concatenated : {P : Type 0} → List (List P) → List P
 concatenated [] = []
 concatenated (part ∷ parts) = part ++ concatenated parts

@@ -1,5 +1,5 @@
 use Rattle.i_shape_core.specs.IntPoint.{contour_of}
-use Rattle.i_shape_core.proofs.removal.ZeroTurns as lemmas
+use Rattle.i_shape_core.proofs.Removal.ZeroTurns as lemmas
 use Rattle.i_shape_laws.proofs.every_order.Goals as goal
 
 pub returns : goal.returns

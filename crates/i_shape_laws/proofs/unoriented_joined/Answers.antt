@@ -1,5 +1,5 @@
 use Rattle.i_shape_core.specs.IntPoint.{contour_of}
-use Rattle.i_shape_core.proofs.forms.Unoriented as lemmas
+use Rattle.i_shape_core.proofs.Forms.Unoriented as lemmas
 use Rattle.i_shape_laws.proofs.unoriented_joined.Goals as goal
 
 pub returns : goal.returns

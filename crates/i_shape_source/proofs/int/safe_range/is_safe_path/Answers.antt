@@ -1,5 +1,5 @@
 use Rattle.i_shape_core.specs.IntPoint.{point_of, IsSafe}
-use Rattle.i_shape_core.proofs.lists.Mapped.{all_mapped}
+use Rattle.i_shape_core.proofs.Lists.Mapped.{all_mapped}
 use Rattle.i_shape_source.proofs.SafePaths.{safe_path}
 use Rattle.i_shape_source.proofs.int.safe_range.is_safe_path.Goals as goal
 

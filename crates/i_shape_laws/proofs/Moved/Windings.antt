@@ -1,5 +1,5 @@
--- How often a moved contour winds about the moved point: off the edges it doesn't matter in which direction the edges
--- are counted.
+-- The winding number of a moved contour about the moved point: for a point off the edges the direction in which heights
+-- are measured doesn't matter.
 use Rattle.std.proofs.Common.{◌≡◌, ℕ, suc, ◌<◌, List, [], ◌∷◌, ◌++◌, length, map, get_or, ℤ, pos, negsuc, ◌+ℤ◌, ◌-ℤ◌, ◌*ℤ◌, ◌<ℤ◌, ◌≤ℤ◌, neg_ℤ, Bool, true, false, cond, int_lt, refl, sym, ap, ap₂, subst, ◌∙◌, arith, inl, inr, add-one}
 use Rattle.std.proofs.lemmas.Int.{ints, by_lt_z}
 use Rattle.std.proofs.lemmas.List.{get_or_append_left, get_or_at}
@@ -9,26 +9,26 @@ use Rattle.i_shape_core.specs.Edges.{Edge, edges_between, edges, sum_of}
 use Rattle.i_shape_core.specs.Winding.{winding_of_edge, winding}
 use Rattle.i_shape_core.specs.Moves.{Move, determinant, moved_point, moved}
 use Rattle.i_shape_core.specs.Boundary.{IsBetween, IsOnEdge}
-use Rattle.i_shape_core.proofs.arithmetic.Polynomials.{Term, number, variable, plus, times, minus, by_polynomials}
-use Rattle.i_shape_core.proofs.plane.CrossProducts.{Place, coordinates, cross_term, dot_term, A, B, C, D, edge, cross_reversed}
-use Rattle.i_shape_core.proofs.arithmetic.WholeNumbers.{alike_scaled, drop_last, not_positive_of, one-mul, zero_not_above, zero_not_below}
-use Rattle.i_shape_core.proofs.measure.Inside.{right_when}
-use Rattle.i_shape_core.proofs.measure.Edges.{sum_alike}
-use Rattle.i_shape_core.proofs.measure.Windings.{bit}
-use Rattle.i_shape_core.proofs.removal.Places.{after_is, Follows}
-use Rattle.i_shape_core.proofs.moved.ZeroTurns.{cross_moved}
-use Rattle.i_shape_core.proofs.plane.Back.{way_squared, square_term, dot_same-first}
+use Rattle.i_shape_core.proofs.Arithmetic.Polynomials.{Term, number, variable, plus, times, minus, by_polynomials}
+use Rattle.i_shape_core.proofs.Plane.CrossProducts.{Place, coordinates, cross_term, dot_term, A, B, C, D, edge, cross_reversed}
+use Rattle.i_shape_core.proofs.Arithmetic.WholeNumbers.{alike_scaled, drop_last, not_positive_of, one-mul, zero_not_above, zero_not_below}
+use Rattle.i_shape_core.proofs.Sums.Inside.{right_when}
+use Rattle.i_shape_core.proofs.Sums.Edges.{sum_alike}
+use Rattle.i_shape_core.proofs.Sums.Windings.{bit}
+use Rattle.i_shape_core.proofs.Removal.Places.{after_is, Follows}
+use Rattle.i_shape_core.proofs.Moved.ZeroTurns.{cross_moved}
+use Rattle.i_shape_core.proofs.Plane.Back.{way_squared, square_term, dot_same-first}
 use Rattle.i_shape_laws.specs.Moved.{WindingMoved}
-use Rattle.i_shape_laws.proofs.moved.Back.{no_way}
+use Rattle.i_shape_laws.proofs.Moved.Back.{no_way}
 
--- ---- what an edge adds, by which ends lie above the point and to which side of the edge the point lies
+-- ---- what an edge adds, by which of its ends are above the point, and the side of the edge that the point is on
 abbrev crossing : Bool → Bool → Bool → Bool → ℤ
 crossing true true left right = pos 0
 crossing true false left right = cond right (negsuc 0) (pos 0)
 crossing false true left right = cond left (pos 1) (pos 0)
 crossing false false left right = pos 0
 
--- the same, where k is below 0 for a point to the left, and above 0 for one to the right
+-- the same by a number k: below 0 for a point on the left, above 0 for one on the right
 abbrev crossing_by : Bool → Bool → ℤ → ℤ
 crossing_by s t k = crossing s t (int_lt k (pos 0)) (int_lt (neg_ℤ k) (pos 0))
 
@@ -43,19 +43,19 @@ edge_crossing p a b = go (int_lt p.y a.y) (int_lt p.y b.y) refl refl
     go false true e f = rw (right_when p a b false true e f, e, f) refl
 
 -- ---- heights along another direction
--- whether a lies above p along l
+-- whether a is above p along l
 abbrev tall : Point → Point → Point → Bool
 tall l p a = int_lt (dot_of l p) (dot_of l a)
 
--- what an edge adds where heights are measured along l
+-- what an edge adds if heights are measured along l
 abbrev crossing_along : Point → Point → Edge → ℤ
 crossing_along l p e = crossing_by (tall l p e.start) (tall l p e.end) (cross e.start p e.end)
 
--- 1 between the two directions in which nothing is counted
+-- 1 for a point above p along the first direction alone, otherwise 0
 abbrev corner : Bool → Bool → ℤ
 corner s t = cond t (pos 0) (bit s)
 
--- heights above p
+-- the height of a above p
 abbrev rise : Point → Point → Point → ℤ
 rise l p a = dot_of l a -ℤ dot_of l p
 
@@ -73,11 +73,11 @@ sides l m a p b = by_polynomials (coordinates (l ∷ m ∷ a ∷ p ∷ b ∷ [])
     (plus (times (rise_term B D C) (rise_term A D E)) (minus (times (rise_term A D C) (rise_term B D E)))) refl
 
 -- ---- orders and products
--- two numbers are in the order of two others whose difference is theirs
+-- equal differences are in the same order
 same_order : (x y u v : ℤ) → y -ℤ x ≡ v -ℤ u → int_lt x y ≡ int_lt u v
 same_order x y u v e = grind (arith, ints)
 
--- a number that isn't below 0, times one that isn't above it
+-- a number not below 0 times one not above 0 isn't above 0
 not_above : (q d e : ℤ) → pos 0 ≤ℤ q → d ≤ℤ pos 0 → q *ℤ d ≡ e → e ≤ℤ pos 0
 not_above q d e h k is = not_positive_of q (pos 1) d e h (omega (arith, ints)) (is ∙ sym (one-mul e)) k
 
@@ -104,7 +104,7 @@ high : (l p a : Point) → tall l p a ≡ true → pos 0 <ℤ rise l p a
 high l p a e = omega (arith, ints)
 
 -- ---- off the edges
--- what holds of the way from a over p to b: it doesn't turn back at p, nor end there
+-- p isn't on the edge
 abbrev Off : Point → Edge → Type 0
 Off p e = IsBetween e.start p e.end → ⊥
 
@@ -112,14 +112,14 @@ abbrev AllOff : Point → List Edge → Type 0
 AllOff p [] = Unit {0}
 AllOff p (e ∷ es) = Off p e × AllOff p es
 
--- where p, a and b lie on one line, the heights of a and b above p are as the ways to them
+-- the height of b above p along l, times the squared distance of p and a, by the height of a and `cross a p b`
 in_line : (l a p b : Point) → way_squared p a *ℤ rise l p b ≡ neg_ℤ (dot a p b) *ℤ rise l p a +ℤ (l.x *ℤ (a.y -ℤ p.y) -ℤ l.y *ℤ (a.x -ℤ p.x)) *ℤ cross a p b
 unfolding way_squared cross dot
 in_line l a p b = by_polynomials (coordinates (a ∷ p ∷ b ∷ l ∷ []))
     (times (square_term B A) (rise_term D B C))
     (plus (times (minus (dot_term A B C)) (rise_term D B A)) (times (plus (times D.x (plus A.y (minus B.y))) (minus (times D.y (plus A.x (minus B.x))))) (cross_term A B C))) refl
 
--- so on one line, off the edge, both lie above p or neither does
+-- so if p, a and b are collinear, and p is off the edge, both ends are above p or neither is
 same_side : (l a p b : Point) → cross a p b ≡ pos 0 → Off p (edge a b) → tall l p a ≡ tall l p b
 same_side l a p b z off = go (int_lt (dot a p b) (pos 0)) refl
   where
@@ -138,8 +138,8 @@ same_side l a p b z off = go (int_lt (dot a p b) (pos 0)) refl
         let alike = alike_scaled (way_squared p a) (neg_ℤ (dot a p b)) (rise l p a) (rise l p b) apart there (sym ways) in
         sym (above (dot_of l p) (dot_of l a)) ∙ alike.above ∙ above (dot_of l p) (dot_of l b)
 
--- ---- one edge, its heights measured along l and along m, where m is left of l
--- the point lies to the left of the edge
+-- ---- one edge, with heights along l and along m, where m is left of l
+-- if the point is left of the edge, the two counts differ by the corners of its ends
 on_left : (l m p a b : Point) → pos 0 <ℤ cross_of l m → int_lt (cross a p b) (pos 0) ≡ true
     → crossing (tall l p a) (tall l p b) true false ≡ crossing (tall m p a) (tall m p b) true false +ℤ (corner (tall l p b) (tall m p b) -ℤ corner (tall l p a) (tall m p a))
 on_left l m p a b d k = go (tall l p a) (tall m p a) (tall l p b) (tall m p b) refl refl refl refl
@@ -171,14 +171,14 @@ on_left l m p a b d k = go (tall l p a) (tall m p a) (tall l p b) (tall m p b) r
     go true true true false e f g h = absurd (wrong (high_high _ _ (high m p a f) (high l p b g)) (high_low _ _ (high l p a e) (low m p b h)))
     go true true true true e f g h = refl
 
--- read backwards, an edge to the right of a point lies to its left
+-- a reversed edge with the point on its right adds the negative of the edge with the point on its left
 crossing_backwards : (s t : Bool) → crossing s t false true ≡ neg_ℤ (crossing t s true false)
 crossing_backwards true true = refl
 crossing_backwards true false = refl
 crossing_backwards false true = refl
 crossing_backwards false false = refl
 
--- the point lies to the right of it
+-- if the point is right of the edge, the two counts differ by the corners of its ends
 on_right : (l m p a b : Point) → pos 0 <ℤ cross_of l m → int_lt (neg_ℤ (cross a p b)) (pos 0) ≡ true
     → crossing (tall l p a) (tall l p b) false true ≡ crossing (tall m p a) (tall m p b) false true +ℤ (corner (tall l p b) (tall m p b) -ℤ corner (tall l p a) (tall m p a))
 on_right l m p a b d k =
@@ -203,8 +203,8 @@ one_edge l m p a b d off = go (int_lt (cross a p b) (pos 0)) (int_lt (neg_ℤ (c
         let z : cross a p b ≡ pos 0 = omega (arith, ints) in
         rw (sym (same_side l a p b z off), sym (same_side m a p b z off)) (in_between (tall l p a) (tall m p a))
 
--- ---- all edges where each edge adds to one number what it adds to another, and how much a height rises along it, both
--- are one number around a contour
+-- ---- all edges
+-- if f and g differ on each edge by the rise of a height along it, they have the same sum around a contour
 module _ (f g : Edge → ℤ) (height : Point → ℤ) (p : Point) (each : (a b : Point) → Off p (edge a b) → f (edge a b) ≡ g (edge a b) +ℤ (height b -ℤ height a)) where
   along_path : (a : Point) (bs : List Point) (z : Point) → AllOff p (edges_between a bs z) → sum_of f (edges_between a bs z) ≡ sum_of g (edges_between a bs z) +ℤ (height z -ℤ height a)
   along_path a [] z off = let one = each a z off.0 in omega (arith, ints)
@@ -217,14 +217,14 @@ module _ (f g : Edge → ℤ) (height : Point → ℤ) (p : Point) (each : (a b 
 contour_by : (l m p : Point) → pos 0 <ℤ cross_of l m → (c : List Point) → AllOff p (edges c) → sum_of (crossing_along l p) (edges c) ≡ sum_of (crossing_along m p) (edges c)
 contour_by l m p d = around (crossing_along l p) (crossing_along m p) (λ q. corner (tall l p q) (tall m p q)) p (λ a b. one_edge l m p a b d)
 
--- heights along y, and to the left
+-- the direction of y
 abbrev up : Point
 up = record { x = pos 0; y = pos 1 }
 
 abbrev back : Point
 back = record { x = negsuc 0; y = pos 0 }
 
--- off the edges the direction doesn't matter
+-- for a point off the edges, heights along any direction give the same sum
 by_any : (l p : Point) (c : List Point) → ((l.x ≡ pos 0) → (l.y ≡ pos 0) → ⊥) → AllOff p (edges c) → sum_of (crossing_along l p) (edges c) ≡ sum_of (crossing_along up p) (edges c)
 by_any l p c some off =
     by_lt_z l.x (pos 0) (λ h. sym (contour_by up l p (omega (arith, ints)) c off)) (λ f. by_lt_z (pos 0) l.x (λ h. contour_by l up p (omega (arith, ints)) c off) (λ g. along_y f g))
@@ -265,7 +265,7 @@ contour_swapped : (l p : Point) (c : List Point) → AllOff p (edges c) → sum_
 contour_swapped l p c off = around (swapped l p) (λ e. neg_ℤ (crossing_along l p e)) (λ q. bit (tall l p q)) p (edge_swapped l p) c off ∙ sum_negated (crossing_along l p) (edges c)
 
 -- ---- the moved contour
--- the direction in which heights were measured before the move
+-- the direction before the move of heights along y after it
 abbrev heights : Move → Point
 heights m = record { x = m.yx; y = m.yy }
 
@@ -293,7 +293,7 @@ unfolding winding
 winding_after m p [] = refl
 winding_after m p (a ∷ bs) = path_after m p a bs a
 
--- heights along y are those of the winding number
+-- the winding number measures heights along y
 winding_up : (p : Point) (c : List Point) → winding c p ≡ sum_of (crossing_along up p) (edges c)
 unfolding winding
 winding_up p c = sum_alike (winding_of_edge p) (crossing_along up p) each (edges c)
@@ -307,7 +307,7 @@ winding_up p c = sum_alike (winding_of_edge p) (crossing_along up p) each (edges
     each : (e : Edge) → winding_of_edge p e ≡ crossing_along up p e
     each e = edge_crossing p e.start e.end ∙ ap₂ (λ (s t : Bool). crossing_by s t (cross e.start p e.end)) (tall_up e.start) (tall_up e.end)
 
--- ---- the edges of a contour, off which the point lies
+-- ---- a point off the edges of a contour
 path_off : (p a : Point) (bs : List Point) (z : Point) → ((k : ℕ) → k < suc (length bs) → IsBetween (get_or (a ∷ bs) k origin) p (get_or (bs ++ z ∷ []) k origin) → ⊥) → AllOff p (edges_between a bs z)
 path_off p a [] z h = (h 0 (omega arith), tt)
 path_off p a (b ∷ bs) z h = (h 0 (omega arith), path_off p b bs z (λ k l. h (suc k) (omega arith)))
@@ -333,11 +333,12 @@ factor_mirrored s t d k h =
     (alike_scaled (neg_ℤ d) (pos 1) (d *ℤ k) (neg_ℤ k) above (omega (arith, ints)) (by_polynomials (d ∷ k ∷ []) (times (number (pos 1)) (times (variable 0) (variable 1))) (times (minus (variable 0)) (minus (variable 1))) refl)).below
     (alike_scaled (neg_ℤ d) (pos 1) (neg_ℤ (d *ℤ k)) k above (omega (arith, ints)) (by_polynomials (d ∷ k ∷ []) (times (number (pos 1)) (minus (times (variable 0) (variable 1)))) (times (minus (variable 0)) (variable 1)) refl)).below
 
--- the heights before the move were measured along some direction
+-- the direction before the move isn't 0 if the determinant isn't
 some_heights : (m : Move) → (determinant m ≡ pos 0 → ⊥) → m.yx ≡ pos 0 → m.yy ≡ pos 0 → ⊥
 some_heights m h e f = h (ap₂ (λ (x y : ℤ). m.xx *ℤ y -ℤ m.xy *ℤ x) e f ∙ by_polynomials (m.xx ∷ m.xy ∷ []) (plus (times (variable 0) (number (pos 0))) (minus (times (variable 1) (number (pos 0))))) (number (pos 0)) refl)
 
--- off the edges a moved contour winds about the moved point as the contour about the point, with the sign of the move
+-- for a point off the edges, a moved contour's winding number about the moved point is the contour's, with the sign of
+-- the determinant
 pub winding_moved : (m : Move) (c : List Point) (p : Point) → (IsOnEdge c p → ⊥) → WindingMoved m c p
 winding_moved m c p off =
     let all = edges_off c p off in

@@ -1,14 +1,14 @@
--- Spikes and repeated points of a contour of which each point is mapped.
+-- Spikes and repeated points of a contour whose points are mapped by f.
 use Rattle.std.proofs.Common.{◌≡◌, ℕ, ◌<◌, List, [], ◌∷◌, length, map, refl, sym, ap, subst, ◌∙◌, arith, ◌↔◌, Bool, true, false, cond, Option, Some, None, option_map}
 use Rattle.std.proofs.lemmas.List.{length-map}
 use Rattle.i_shape_core.specs.Point.{Point, IsZeroTurn, IsBack}
 use Rattle.i_shape_core.specs.Contour.{Rotation}
 use Rattle.i_shape_core.specs.Convex.{is_same, changes_after, last_of, dedup, cross_at, IsReversal, NoSpikes}
 use Rattle.i_shape_core.specs.Cleaners.{IsDespiked, SpikelessAnswer, DespikeAnswer}
-use Rattle.i_shape_core.proofs.removal.Dedup.{same_yes, same_self, same_no, apart_no}
-use Rattle.i_shape_core.proofs.moved.Mapped.{Carries, point_mapped, point_before_mapped, point_after_mapped, passes_at_equal_points, rotation_mapped}
-use Rattle.i_shape_laws.proofs.moved.Ends.{Returns, Apart, end_mapped, end_back, end_back_to, one_mapped, rotation_back, answer_mapped}
-use Rattle.i_shape_core.proofs.convex.Laws.{IsReversed}
+use Rattle.i_shape_core.proofs.Removal.Dedup.{same_yes, same_self, same_no, apart_no}
+use Rattle.i_shape_core.proofs.Moved.Mapped.{Carries, point_mapped, point_before_mapped, point_after_mapped, passes_at_equal_points, rotation_mapped}
+use Rattle.i_shape_laws.proofs.Moved.Ends.{Returns, Apart, end_mapped, end_back, end_back_to, one_mapped, rotation_back, answer_mapped}
+use Rattle.i_shape_core.proofs.Convex.Laws.{IsReversed}
 
 module _ (f : Point → Point) (apart : Apart f) where
   same_mapped : (p q : Point) → is_same (f p) (f q) ≡ is_same p q
@@ -31,7 +31,7 @@ module _ (f : Point → Point) (apart : Apart f) where
   last_mapped q [] = refl
   last_mapped q (p ∷ ps) = last_mapped p ps
 
-  -- without the repeated points
+  -- removing repeated points and mapping is mapping and removing repeated points
   pub dedup_mapped : (c : List Point) → dedup (map f c) ≡ map f (dedup c)
   unfolding dedup
   dedup_mapped [] = refl
@@ -54,7 +54,7 @@ module _ (f : Point → Point) (apart : Apart f) (carries : Carries f IsReversed
   same_length : (c : List Point) → length (dedup (map f c)) ≡ length (dedup c)
   same_length c = ap length (dedup_mapped f apart c) ∙ length-map (dedup c) f
 
-  -- a contour has no spikes exactly where the mapped one has none
+  -- a contour has no spikes exactly if its image has none
   pub spikeless_mapped : (c : List Point) → NoSpikes c ↔ NoSpikes (map f c)
   spikeless_mapped c = (there, back)
     where
@@ -100,7 +100,7 @@ module _ (f : Point → Point) (apart : Apart f) (carries : Carries f IsReversed
     same_option c None e = absurd (cc)
     same_option c (Some d) e = let h : map f d ≡ map f c = cc in ap (λ (l : List Point). Some l) (one_mapped f apart d c h)
 
-    -- an answer of the removal of spikes, mapped, is one of the mapped contour
+    -- r is a despike answer of a contour exactly if its image is one of the contour's image
     pub despike_mapped : (c : List Point) (r : Option (List Point)) → DespikeAnswer c r ↔ DespikeAnswer (map f c) (option_map (map f) r)
     despike_mapped c r = (there, back)
       where

@@ -1,12 +1,12 @@
--- Moves that keep areas apart from zero: zero turns alone become zero turns, and different points stay different.
+-- Moves with a determinant other than 0: only zero turns become zero turns, and different points stay different.
 use Rattle.std.proofs.Common.{◌≡◌, ◌≢◌, ℤ, pos, ◌+ℤ◌, ◌-ℤ◌, ◌*ℤ◌, neg_ℤ, refl, sym, ap, ◌∙◌, inl, inr, ◌⊎◌}
 use Rattle.i_shape_core.specs.Point.{Point, cross, IsZeroTurn}
 use Rattle.i_shape_core.specs.Moves.{Move, determinant, moved_point}
-use Rattle.i_shape_core.proofs.arithmetic.Polynomials.{variable, plus, times, minus, by_polynomials}
-use Rattle.i_shape_core.proofs.arithmetic.WholeNumbers.{zero_product, equal_of_difference, difference_of_equal}
-use Rattle.i_shape_core.proofs.plane.CrossProducts.{A, B, same_point, both_zero}
-use Rattle.i_shape_core.proofs.moved.ZeroTurns.{numbers_of_move, new_x, new_y, area_factor, cross_moved}
-use Rattle.i_shape_laws.proofs.moved.Ends.{Returns, Apart}
+use Rattle.i_shape_core.proofs.Arithmetic.Polynomials.{variable, plus, times, minus, by_polynomials}
+use Rattle.i_shape_core.proofs.Arithmetic.WholeNumbers.{zero_product, equal_of_difference, difference_of_equal}
+use Rattle.i_shape_core.proofs.Plane.CrossProducts.{A, B, same_point, both_zero}
+use Rattle.i_shape_core.proofs.Moved.ZeroTurns.{numbers_of_move, new_x, new_y, area_factor, cross_moved}
+use Rattle.i_shape_laws.proofs.Moved.Ends.{Returns, Apart}
 
 other_factor : (d x y : ℤ) → d ≢ pos 0 → x ≡ d *ℤ y → x ≡ pos 0 → y ≡ pos 0
 other_factor d x y some e f = go (zero_product d y (sym e ∙ f))
@@ -15,7 +15,7 @@ other_factor d x y some e f = go (zero_product d y (sym e ∙ f))
     go (inl h) = absurd (some h)
     go (inr h) = h
 
--- a move that keeps areas apart from 0 makes no turn straight
+-- at a move with a determinant other than 0 only zero turns become zero turns
 pub zero_back : (m : Move) → determinant m ≢ pos 0 → Returns (moved_point m) IsZeroTurn IsZeroTurn
 zero_back m some a b c e = other_factor (determinant m) _ (cross a b c) some (cross_moved m a b c) e
 
@@ -30,7 +30,7 @@ back_y m p q = by_polynomials (numbers_of_move p q q m)
     (plus (times (variable 6) (plus (new_y A) (minus (new_y B)))) (times (minus (variable 8)) (plus (new_x A) (minus (new_x B)))))
     (times area_factor (plus A.y (minus B.y))) refl
 
--- a move of a determinant other than 0 keeps different points apart
+-- a move with a determinant other than 0 keeps different points different
 pub moved_apart : (m : Move) → determinant m ≢ pos 0 → Apart (moved_point m)
 moved_apart m some p q e =
     let x = difference_of_equal _ _ (ap (λ (r : Point). r.x) e) in

@@ -3,14 +3,14 @@ use Rattle.std.proofs.Common.{◌≢◌, List, pos}
 use Rattle.i_shape_core.specs.Point.{Point}
 use Rattle.i_shape_core.specs.Moves.{Move, determinant, moved_point}
 use Rattle.i_shape_laws.specs.Moved.{MovedAlike}
-use Rattle.i_shape_core.proofs.moved.Mapped.{reach_mapped}
-use Rattle.i_shape_core.proofs.moved.ZeroTurns.{zero_moved}
-use Rattle.i_shape_laws.proofs.moved.Ends.{reach_back_to, end_mapped, end_back, end_back_to, answer_mapped}
-use Rattle.i_shape_laws.proofs.moved.Points.{zero_back, moved_apart}
-use Rattle.i_shape_laws.proofs.moved.Back.{back_moved, back_back, reverses_moved, reverses_back}
-use Rattle.i_shape_laws.proofs.moved.Spikes.{despike_mapped}
+use Rattle.i_shape_core.proofs.Moved.Mapped.{reach_mapped}
+use Rattle.i_shape_core.proofs.Moved.ZeroTurns.{zero_moved}
+use Rattle.i_shape_laws.proofs.Moved.Ends.{reach_back_to, end_mapped, end_back, end_back_to, answer_mapped}
+use Rattle.i_shape_laws.proofs.Moved.Points.{zero_back, moved_apart}
+use Rattle.i_shape_laws.proofs.Moved.Back.{back_moved, back_back, reverses_moved, reverses_back}
+use Rattle.i_shape_laws.proofs.Moved.Spikes.{despike_mapped}
 
--- a contour and the moved one have the same removals, ends and answers, at a move of a determinant other than 0
+-- at a move with a determinant other than 0, a contour and the moved one have the same removals, ends and answers
 pub moved_laws : (m : Move) → determinant m ≢ pos 0 → (c : List Point) → MovedAlike m c
 moved_laws m some c =
     let f = moved_point m in

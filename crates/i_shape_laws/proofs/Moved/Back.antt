@@ -1,20 +1,20 @@
--- Points at which a way turns back, where the plane is moved by an affine map.
+-- Back vertices under an affine map.
 use Rattle.std.proofs.Common.{◌≡◌, ◌≢◌, [], ◌∷◌, ℤ, pos, ◌+ℤ◌, ◌-ℤ◌, ◌*ℤ◌, ◌≤ℤ◌, ◌<ℤ◌, int_lt, refl, sym, ap, subst, ◌∙◌, arith}
 use Rattle.std.proofs.lemmas.Int.{ints, by_lt_z}
 use Rattle.i_shape_core.specs.Point.{Point, cross, dot, IsBack}
 use Rattle.i_shape_core.specs.Moves.{Move, determinant, moved_point}
-use Rattle.i_shape_core.proofs.arithmetic.Polynomials.{Term, number, variable, plus, times, minus, by_polynomials}
-use Rattle.i_shape_core.proofs.arithmetic.WholeNumbers.{not_positive_of, drop_last, alike_scaled, low_of_zero, zero_not_above, zero_not_below}
-use Rattle.i_shape_core.proofs.plane.CrossProducts.{coordinates, cross_term, dot_term, A, B, C}
-use Rattle.i_shape_core.proofs.plane.Back as plane
-use Rattle.i_shape_core.proofs.plane.Back.{way_squared, square_term, square_at_least, dot_same-first}
-use Rattle.i_shape_core.proofs.convex.Laws.{IsReversed}
-use Rattle.i_shape_core.proofs.moved.Mapped.{Carries}
-use Rattle.i_shape_core.proofs.moved.ZeroTurns.{numbers_of_move, new_place, zero_moved}
-use Rattle.i_shape_laws.proofs.moved.Ends.{Returns}
-use Rattle.i_shape_laws.proofs.moved.Points.{zero_back, moved_apart}
+use Rattle.i_shape_core.proofs.Arithmetic.Polynomials.{Term, number, variable, plus, times, minus, by_polynomials}
+use Rattle.i_shape_core.proofs.Arithmetic.WholeNumbers.{not_positive_of, drop_last, alike_scaled, low_of_zero, zero_not_above, zero_not_below}
+use Rattle.i_shape_core.proofs.Plane.CrossProducts.{coordinates, cross_term, dot_term, A, B, C}
+use Rattle.i_shape_core.proofs.Plane.Back as plane
+use Rattle.i_shape_core.proofs.Plane.Back.{way_squared, square_term, square_at_least, dot_same-first}
+use Rattle.i_shape_core.proofs.Convex.Laws.{IsReversed}
+use Rattle.i_shape_core.proofs.Moved.Mapped.{Carries}
+use Rattle.i_shape_core.proofs.Moved.ZeroTurns.{numbers_of_move, new_place, zero_moved}
+use Rattle.i_shape_laws.proofs.Moved.Ends.{Returns}
+use Rattle.i_shape_laws.proofs.Moved.Points.{zero_back, moved_apart}
 
--- the moved way from a to b, and the way rotated by a right angle and then moved
+-- the dot product of the moved vector from a to b and that vector rotated by a right angle and then moved
 abbrev skew : Move → Point → Point → ℤ
 skew m a b = (m.xx *ℤ (b.x -ℤ a.x) +ℤ m.xy *ℤ (b.y -ℤ a.y)) *ℤ (m.xy *ℤ (b.x -ℤ a.x) -ℤ m.xx *ℤ (b.y -ℤ a.y)) +ℤ (m.yx *ℤ (b.x -ℤ a.x) +ℤ m.yy *ℤ (b.y -ℤ a.y)) *ℤ (m.yy *ℤ (b.x -ℤ a.x) -ℤ m.yx *ℤ (b.y -ℤ a.y))
 
@@ -32,14 +32,14 @@ dot_moved m a b c = by_polynomials (numbers_of_move a b c m)
     (times (square_term A B) (dot_term (new_place A) (new_place B) (new_place C)))
     (plus (times (square_term (new_place A) (new_place B)) (dot_term A B C)) (times skew_term (cross_term A B C))) refl
 
--- two points whose squared distance is at most 0 are the same
+-- points whose squared distance is at most 0 are equal
 pub no_way : (a p : Point) → way_squared a p ≤ℤ pos 0 → a ≡ p
 no_way a p h = plane.no_way a p (omega (arith, ints, square_at_least a p))
 
 dot_standing_still : (a b c : Point) → a ≡ b → dot a b c ≤ℤ pos 0
 dot_standing_still a b c e = subst (λ (x : Point). dot a x c ≤ℤ pos 0) e (low_of_zero (dot a a c) (dot_same-first a c))
 
--- what turns back is moved to what turns back
+-- a move keeps back vertices
 pub back_moved : (m : Move) → Carries (moved_point m) IsBack IsBack
 back_moved m a b c (z, d) = (
   zero_moved m a b c z,
@@ -48,7 +48,7 @@ back_moved m a b c (z, d) = (
       (λ h. dot_standing_still (moved_point m a) (moved_point m b) (moved_point m c) (ap (moved_point m) (no_way a b h))),
 )
 
--- where a moved path turns back or stands still, the path did, at a move of a determinant other than 0
+-- at a move with a determinant other than 0 only back vertices become back vertices
 pub back_back : (m : Move) → determinant m ≢ pos 0 → Returns (moved_point m) IsBack IsBack
 back_back m some a b c (z, d) =
     let z' = zero_back m some a b c z in (
@@ -58,7 +58,7 @@ back_back m some a b c (z, d) =
           (λ h. dot_standing_still a b c (moved_apart m some a b (no_way (moved_point m a) (moved_point m b) h))),
     )
 
--- ---- where the way goes back and doesn't stand still
+-- ---- reversals
 not_still : (a b c : Point) → dot a b c <ℤ pos 0 → pos 0 <ℤ way_squared a b
 not_still a b c h = by_lt_z (pos 0) (way_squared a b) (λ l. l) (λ l. absurd (zero_not_below (dot a b c) (subst (λ (x : Point). dot a x c ≡ pos 0) (no_way a b l) (dot_same-first a c)) h))
 
@@ -82,13 +82,13 @@ apart_squares m some a b h = by_lt_z (pos 0) (way_squared (moved_point m a) (mov
 squares_apart : (m : Move) (a b : Point) → pos 0 <ℤ way_squared (moved_point m a) (moved_point m b) → pos 0 <ℤ way_squared a b
 squares_apart m a b h = by_lt_z (pos 0) (way_squared a b) (λ l. l) (λ l. absurd (no_square (moved_point m a) (moved_point m b) (ap (moved_point m) (no_way a b l)) h))
 
--- a way that goes back is moved to one that goes back, at a move of a determinant other than 0
+-- a move with a determinant other than 0 keeps reversals
 pub reverses_moved : (m : Move) → determinant m ≢ pos 0 → Carries (moved_point m) IsReversed IsReversed
 reverses_moved m some a b c (z, d) =
     let s = not_still a b c d in
     (zero_moved m a b c z, below _ (dot a b c) (same_sign m a b c z s (apart_squares m some a b s)) d)
 
--- where a moved way goes back, the way did, at a move of a determinant other than 0
+-- at a move with a determinant other than 0 only reversals become reversals
 pub reverses_back : (m : Move) → determinant m ≢ pos 0 → Returns (moved_point m) IsReversed IsReversed
 reverses_back m some a b c (z, d) =
     let z' = zero_back m some a b c z in
