@@ -1,4 +1,4 @@
--- The definitions of flat lists, shapes and ranges at values that are written out.
+-- The definitions of flat lists, shapes and ranges at literal values.
 use Rattle.std.proofs.Common.{◌≡◌, ℕ, List, [], ◌∷◌, ◌<◌, Option, Some, None, pos, refl, lit≤, lit<, arith, length}
 use Rattle.i_shape_core.specs.Point.{cross}
 use Rattle.i_shape.proofs.Common.{Range, Point, shoelace, area_of_edge, is_right, concatenated, InOrder, part_of, slices, shapes, IsReadableShape, end_to_end, CanReadFirst, first_contour, range_len, readable_slices, in_one_shape, ShapeClean, ListClean, shape_shoelace, shapes_shoelace, inside_count}
@@ -6,11 +6,11 @@ use Rattle.i_shape.proofs.Common.{Range, Point, shoelace, area_of_edge, is_right
 abbrev from_to : ℕ → ℕ → Range ℕ
 from_to start end = record { start = start; end = end }
 
--- any members will do for points
+-- natural numbers for points
 abbrev three : List ℕ
 three = 7 ∷ 8 ∷ 9 ∷ []
 
--- ---- ranges: one that is empty or runs backwards names nothing
+-- ---- ranges: an empty or reversed one names nothing
 parts : (part_of three (from_to 1 3) ≡ 8 ∷ 9 ∷ []) × (part_of three (from_to 1 1) ≡ []) × (part_of three (from_to 2 1) ≡ []) × (range_len (from_to 2 1) ≡ 0)
 parts = (refl, refl, refl, refl)
 
@@ -31,7 +31,7 @@ lent = refl
 laid : (concatenated ((7 ∷ 8 ∷ []) ∷ [] ∷ (9 ∷ []) ∷ []) ≡ three) × (end_to_end {P = ℕ} 0 ((7 ∷ 8 ∷ []) ∷ [] ∷ (9 ∷ []) ∷ []) ≡ from_to 0 2 ∷ from_to 2 2 ∷ from_to 2 3 ∷ [])
 laid = (refl, refl)
 
--- ---- shapes: a shape range that is empty or runs backwards names the shape without contours, wherever it points
+-- ---- shapes: an empty or reversed shape range names the shape without contours, wherever it points
 grouped : shapes three (from_to 0 2 ∷ from_to 2 3 ∷ []) (from_to 0 2 ∷ from_to 5 5 ∷ from_to 2 0 ∷ from_to 1 2 ∷ [])
     ≡ ((7 ∷ 8 ∷ []) ∷ (9 ∷ []) ∷ []) ∷ [] ∷ [] ∷ ((9 ∷ []) ∷ []) ∷ []
 grouped = refl
@@ -42,7 +42,7 @@ empty_range_is_readable = (λ less. omega (arith, less), λ readable. omega (ari
 one_shape : (in_one_shape {P = ℕ} [] ≡ []) × (in_one_shape {P = ℕ} ((7 ∷ []) ∷ [] ∷ []) ≡ ((7 ∷ []) ∷ [] ∷ []) ∷ [])
 one_shape = (refl, refl)
 
--- ---- cleaning, where each contour of fewer than three points collapses and each other is its own answer
+-- ---- cleaning by which a contour of fewer than three points collapses, and any other is its own answer
 Told : List Point → Option (List Point) → Type 0
 Told c None = length c < 3
 Told c (Some e) = (e ≡ c) × (2 < length c)
@@ -80,7 +80,7 @@ sums : (shape_shoelace [] ≡ pos 0) × (shapes_shoelace ([] ∷ []) ≡ pos 0) 
 unfolding shoelace area_of_edge half
 sums = (refl, refl, refl, refl)
 
--- ---- how many contours a point is inside of
+-- ---- the number of contours that a point is inside
 corners : List Point
 corners = at 0 0 ∷ at 4 0 ∷ at 0 4 ∷ []
 

@@ -1,14 +1,14 @@
--- the words of points, contours, shapes and buffers that proofs name
+-- the definitions of points, contours, shapes and buffers that proofs name
 mod Common
--- lists: end to end, in order, permuted, what cleaning leaves of them
-pub mod lists
+-- lists: concatenated, sorted, permuted, what cleaning leaves of them
+pub mod Lists
 -- shapes and lists of shapes: what cleaning keeps, their order and forms
-pub mod shapes
+pub mod Shapes
 -- flat buffers: what they hold, and cleaning inside them
-pub mod buffers
+pub mod Buffers
 -- cleaning in place
-pub mod in_place
+pub mod InPlace
 -- what callers cite
 pub mod CallerLemmas
--- the definitions of flat lists, shapes and ranges at values that are written out
+-- the definitions of flat lists, shapes and ranges at literal values
 pub mod Examples

@@ -1,4 +1,4 @@
--- What flat buffers hold and name, and what room they have.
+-- What flat buffers hold and name, and their room.
 use Rattle.std.specs.Prelude.{◌≡◌, ℕ, List, [], ◌∷◌, length, ◌++◌, ◌-◌, ◌≤◌, ℤ, map, vec_capacity}
 use Rattle.std.specs.List.{All, sum_by}
 use Rattle.std.specs.declared.ops.Range.{Range}
@@ -23,7 +23,7 @@ pub record SameLists {T : Type 0} (old new : FlatContoursBuffer T) : Type 0 wher
   pub points : new.points.items ≡ old.points.items
   pub ranges : new.ranges.items ≡ old.ranges.items
 
--- there is room for at least that many points and contours in all
+-- there is room for at least so many points and contours in all
 abbrev pub HasRoom : {T : Type 0} → FlatContoursBuffer T → ℕ → ℕ → Type 0
 HasRoom buffer points contours = (points ≤ vec_capacity buffer.points) × (contours ≤ vec_capacity buffer.ranges)
 
@@ -36,7 +36,7 @@ abbrev pub CanReadFirst : List (Range ℕ) → ℕ → Type 0
 CanReadFirst [] n = Unit {0}
 CanReadFirst (range ∷ ranges) n = InOrder n range
 
--- the part of the points that the first range names, or all of them where there is no range
+-- the part of the points that the first range names, or all of them if there is no range
 abbrev pub first_contour : {P : Type 0} → List P → List (Range ℕ) → List P
 first_contour points [] = points
 first_contour points (range ∷ ranges) = part_of points range
@@ -69,7 +69,7 @@ pub record SameShapeLists {T : Type 0} (old new : FlatShapesBuffer T) : Type 0 w
   pub contour_ranges : new.contour_ranges.items ≡ old.contour_ranges.items
   pub shape_ranges : new.shape_ranges.items ≡ old.shape_ranges.items
 
--- there is room for at least that many points, contours and shapes in all
+-- there is room for at least so many points, contours and shapes in all
 abbrev pub HasShapesRoom : {T : Type 0} → FlatShapesBuffer T → ℕ → ℕ → ℕ → Type 0
 HasShapesRoom buffer points contours shapes =
     (points ≤ vec_capacity buffer.points) × (contours ≤ vec_capacity buffer.contour_ranges) × (shapes ≤ vec_capacity buffer.shape_ranges)
@@ -78,16 +78,16 @@ HasShapesRoom buffer points contours shapes =
 abbrev pub KeepsShapesRoom : {T : Type 0} → FlatShapesBuffer T → FlatShapesBuffer T → Type 0
 KeepsShapesRoom old new = HasShapesRoom new (vec_capacity old.points) (vec_capacity old.contour_ranges) (vec_capacity old.shape_ranges)
 
--- the new buffer is the old one with one more shape at the end
+-- the new buffer is the old one with a shape appended
 pub record AddsShape {T : Type 0} (old new : FlatShapesBuffer T) (shape : List (List (IntPoint T))) : Type 0 where
   pub points : new.points.items ≡ old.points.items ++ concatenated shape
   pub contour_ranges : new.contour_ranges.items ≡ old.contour_ranges.items ++ end_to_end (length old.points.items) shape
   pub shape_ranges : new.shape_ranges.items ≡ old.shape_ranges.items ++ behind (length old.contour_ranges.items) (length shape) ∷ []
-  -- where the shapes could be read, they still can, with this one at the end
+  -- if the old shapes can be read, so can the new ones, which are the old ones and then this shape
   pub readable : CanReadShapes old → CanReadShapes new
   pub shapes : CanReadShapes old → shapes_in new ≡ shapes_in old ++ shape ∷ []
 
--- the contours that ranges name in points, in unbounded integers, where `value` gives the number that a coordinate
+-- the contours that ranges name in points, in unbounded integers; `value` returns the number that a coordinate
 -- represents
 abbrev pub read_contours : {T : Type 0} → (T → ℤ) → List (IntPoint T) → List (Range ℕ) → List (List Point)
 read_contours value points ranges = map (contour_of value) (slices points ranges)
@@ -96,11 +96,11 @@ read_contours value points ranges = map (contour_of value) (slices points ranges
 abbrev pub contours_in : {T : Type 0} → (T → ℤ) → FlatContoursBuffer T → List (List Point)
 contours_in value buffer = read_contours value buffer.points.items buffer.ranges.items
 
--- how many points a range names: none where it is reversed
+-- the number of points that a range names: none if it is reversed
 abbrev pub range_len : Range ℕ → ℕ
 range_len range = range.end - range.start
 
--- contours in unbounded integers, where `value` gives the number that a coordinate represents
+-- contours in unbounded integers; `value` returns the number that a coordinate represents
 abbrev pub contours_of : {T : Type 0} → (T → ℤ) → List (List (IntPoint T)) → List (List Point)
 contours_of value contours = map (contour_of value) contours
 
@@ -112,10 +112,10 @@ read_shapes value points contour_ranges shape_ranges = map (contours_of value) (
 abbrev pub named_shapes : {T : Type 0} → (T → ℤ) → FlatShapesBuffer T → List (List (List Point))
 named_shapes value buffer = map (contours_of value) (shapes_in buffer)
 
--- how many points the shapes have together, each counted as often as it is named
+-- the number of points of the shapes together, each counted as often as it is named
 abbrev pub named_points : List (Range ℕ) → List (Range ℕ) → ℕ
 named_points contour_ranges shape_ranges = sum_by (λ range. sum_by range_len (part_of contour_ranges range)) shape_ranges
 
--- how many contours the shapes have together, each counted as often as it is named
+-- the number of contours of the shapes together, each counted as often as it is named
 abbrev pub named_contours : List (Range ℕ) → List (Range ℕ) → ℕ
 named_contours contour_ranges shape_ranges = sum_by (λ range. length (part_of contour_ranges range)) shape_ranges

@@ -1,5 +1,5 @@
--- One form for all polygons whose contours lead to one another, and for all lists of such polygons. `Form` relates a
--- contour to its form, or to none where it collapses.
+-- One form for all polygons whose contours are joined, and for all lists of such polygons. `Form` relates a contour to
+-- its form, or to none if it collapses.
 use Rattle.std.specs.Prelude.{◌≡◌, ℤ, List, Option, Some, None, IsPermutation, ◌⊎◌, ◌↔◌, nat_abs, [], ◌∷◌, IfSome}
 use Rattle.std.specs.Global.{Vec}
 use Rattle.std.specs.Int.{Width}
@@ -15,7 +15,7 @@ use Rattle.i_shape_core.specs.Moves.{moved, scaling}
 use Rattle.i_shape_core.specs.Cleaners.{EachEndCollapses}
 use Rattle.i_shape_core.specs.Canonical.{IsAtMost}
 
--- the members of xs, in some order, are related to those of ys place by place
+-- the members of xs, in some order, are related pairwise to those of ys
 pub record Matched {X : Type 0} (R : X → X → Type 0) (xs ys : List X) : Type 0 where
   pub order : List X
   pub same : IsPermutation xs order
@@ -39,7 +39,7 @@ abbrev pub SortedForms : {X Y : Type 0} → (X → Option Y → Type 0) → (Y �
 SortedForms {X} {Y} Answer AtMost xs sorted = (forms : List Y) × Survivors Answer xs forms × IsPermutation forms sorted × AllPairs AtMost sorted
 
 -- the form of a shape: the form of its outer contour, and then the sorted forms of the holes that don't collapse; none
--- where the outer contour collapses; an empty shape stays empty
+-- if the outer contour collapses; an empty shape stays empty
 abbrev pub ShapeForm : (List Point → Option (List Point) → Type 0) → List (List Point) → Option (List (List Point)) → Type 0
 ShapeForm Form [] r = r ≡ Some []
 ShapeForm Form (outer ∷ holes) None = Form outer None
@@ -61,7 +61,7 @@ abbrev pub OuterCollapses : List (List Point) → Type 0
 OuterCollapses [] = ⊥
 OuterCollapses (outer ∷ holes) = EachEndCollapses outer
 
--- the outer contours are related, and so are the holes that don't collapse, one to one
+-- both are empty, or the outer contours are related, and the holes that don't collapse are, one to one
 abbrev pub SameShape : (List Point → List Point → Type 0) → List (List Point) → List (List Point) → Type 0
 SameShape Same [] [] = Unit {0}
 SameShape Same [] (d ∷ t) = ⊥
@@ -72,48 +72,48 @@ SameShape Same (c ∷ s) (d ∷ t) = Same c d × MatchedUncollapsed EachEndColla
 abbrev pub SameList : (List Point → List Point → Type 0) → List (List (List Point)) → List (List (List Point)) → Type 0
 SameList Same s t = MatchedUncollapsed OuterCollapses (SameShape Same) s t
 
--- the contours that are left have the same sum of absolute double areas; each point is inside of as many of them, and
--- the sum of their absolute winding numbers about it is the same, also where all contours are scaled by any n
+-- the contours left have the same sum of absolute double areas; each point is inside as many of them and has the same
+-- sum of absolute winding numbers, also if all contours are scaled by any n
 pub record AreKeptEitherWay (contours left : List (List Point)) : Type 0 where
   pub area : sum_by (λ c. nat_abs (shoelace c)) left ≡ sum_by (λ c. nat_abs (shoelace c)) contours
   pub inside : (p : Point) → inside_count left p ≡ inside_count contours p
   pub between : (n : ℤ) (p : Point) → sum_by (λ c. nat_abs (winding (moved (scaling n) c) p)) left ≡ sum_by (λ c. nat_abs (winding (moved (scaling n) c) p)) contours
   pub winding : (p : Point) → sum_by (λ c. nat_abs (winding c p)) left ≡ sum_by (λ c. nat_abs (winding c p)) contours
 
--- the forms of the shapes, in some order, each of which keeps `Kept` of its shape
+-- `sorted` are the forms of the shapes in some order, each of which keeps `Kept` of its shape
 pub record FormsKept (Form : List Point → Option (List Point) → Type 0) (Kept : List (List Point) → List (List Point) → Type 0) (shapes sorted : List (List (List Point))) : Type 0 where
   pub forms : List (List (List Point))
   pub each : Survivors (λ shape r. ShapeForm Form shape r × IfSome r (Kept shape)) shapes forms
   pub same : IsPermutation forms sorted
 
--- r is the form of a shape, and keeps `Kept` of it
+-- r is the form of a shape, keeps `Kept` of it, and is safe
 pub record IsFormOfShape (Form : List Point → Option (List Point) → Type 0) (Kept : List (List Point) → List (List Point) → Type 0) (width : Width) (shape : List (List Point)) (r : Option (List (List Point))) : Type 0 where
   pub answer : ShapeForm Form shape r
   pub kept : IfSome r (Kept shape)
   pub safe : IfSome r (IsSafeShape width)
 
--- the same of a list of shapes
+-- `sorted` is the form of a list, keeps `Kept` of each shape, and is safe
 pub record IsFormOfList (Form : List Point → Option (List Point) → Type 0) (Kept : List (List Point) → List (List Point) → Type 0) (width : Width) (shapes sorted : List (List (List Point))) : Type 0 where
   pub answer : ListForm Form shapes sorted
   pub kept : FormsKept Form Kept shapes sorted
   pub safe : IsSafeList width sorted
 
--- the same in points of the program, where `value` gives the number that a coordinate represents
+-- r is the form of a shape in points of the program; `value` returns the number that a coordinate represents
 abbrev pub FormsShapeTo : {I : Type 0} → (List Point → Option (List Point) → Type 0) → (List (List Point) → List (List Point) → Type 0) → Width → (I → ℤ) → List (List Point) → Option (Vec (Vec (IntPoint I))) → Type 0
 FormsShapeTo Form Kept width value shape r = IsFormOfShape Form Kept width shape (answered (shape_of value) r)
 
 abbrev pub FormsListTo : {I : Type 0} → (List Point → Option (List Point) → Type 0) → (List (List Point) → List (List Point) → Type 0) → Width → (I → ℤ) → List (List (List Point)) → Vec (Vec (Vec (IntPoint I))) → Type 0
 FormsListTo Form Kept width value shapes r = IsFormOfList Form Kept width shapes (shapes_of value r.items)
 
--- the forms of two shapes, where both have one, are equal exactly where the shapes are the same
+-- the forms of two shapes, if both have one, are equal exactly if the shapes are the same
 abbrev pub OneShapeForm : (List Point → Option (List Point) → Type 0) → (List Point → List Point → Type 0) → List (List Point) → List (List Point) → Type 0
 OneShapeForm Form Same s t = (l m : List (List Point)) → ShapeForm Form s (Some l) → ShapeForm Form t (Some m) → (l ≡ m) ↔ SameShape Same s t
 
--- the forms of two lists are equal exactly where the lists are the same
+-- the forms of two lists are equal exactly if the lists are the same
 abbrev pub OneListForm : (List Point → Option (List Point) → Type 0) → (List Point → List Point → Type 0) → List (List (List Point)) → List (List (List Point)) → Type 0
 OneListForm Form Same s t = (l m : List (List (List Point))) → ListForm Form s l → ListForm Form t m → (l ≡ m) ↔ SameList Same s t
 
--- a shape has a form exactly where its outer contour doesn't collapse, and each form is its own form
+-- a shape has a form exactly if its outer contour doesn't collapse, and each form is its own form
 pub record HasShapeForm (Form : List Point → Option (List Point) → Type 0) (s : List (List Point)) : Type 0 where
   pub none : ShapeForm Form s None ↔ OuterCollapses s
   pub some : ((l : List (List Point)) × ShapeForm Form s (Some l)) ↔ (OuterCollapses s → ⊥)

@@ -17,14 +17,14 @@ use Rattle.i_shape.specs.ShapeAnswers.{Survivors, ListClean, EachShape, AreKept,
 pub record CleansBuffer {T : Type 0} (Passes : List Point → Type 0) (Answer : List Point → Option (List Point) → Type 0) (width : Width) (value : T → ℤ) (old new : FlatContoursBuffer T) (r : Result Bool ShapeError) : Type 0 where
   -- without an error, the cleaned contours are left, in order, without those that collapse
   pub cleaned : OnOk r (Survivors Answer (contours_in value old) (contours_in value new))
-  -- it returns false exactly where each contour passes
+  -- it returns false exactly if each contour passes
   pub clean : r ≡ Ok false ↔ All Passes (contours_in value old)
   -- whatever it returns, the contours together keep their double area, and about each point the inside count and the
   -- total winding number
   pub kept : AreKept (contours_in value old) (contours_in value new)
   -- unless it returns true, the buffer is unchanged
   pub unchanged : (r ≡ Ok true → ⊥) → new ≡ old
-  -- where it returns true, the buffer holds the contours end to end, and nothing else
+  -- if it returns true, the buffer holds the contours end to end, and nothing else
   pub end_to_end : r ≡ Ok true → HoldsContours new (slices new.points.items new.ranges.items)
   -- whatever it returns, the contours can be read
   pub readable : CanReadContours new
@@ -36,14 +36,14 @@ pub record CleansShapesBuffer {T : Type 0} (Passes : List Point → Type 0) (Ans
   -- without an error, the cleaned shapes are left, in order, without the contours that collapse and the shapes whose
   -- first contour collapses
   pub cleaned : OnOk r (ListClean Answer (named_shapes value old) (named_shapes value new))
-  -- it returns false exactly where each contour of each shape passes
+  -- it returns false exactly if each contour of each shape passes
   pub clean : r ≡ Ok false ↔ EachShape Passes (named_shapes value old)
   -- without an error, each shape that is left keeps its double area, and about each point the inside count and the
   -- total winding number
   pub kept : OnOk r (ListKept Answer (named_shapes value old) (named_shapes value new))
   -- unless it returns true, the buffer is unchanged
   pub unchanged : (r ≡ Ok true → ⊥) → new ≡ old
-  -- where it returns true, the buffer holds the shapes end to end, and nothing else
+  -- if it returns true, the buffer holds the shapes end to end, and nothing else
   pub end_to_end : r ≡ Ok true → HoldsShapes new (shapes_in new)
   -- whatever it returns, the shapes can be read
   pub readable : CanReadShapes new

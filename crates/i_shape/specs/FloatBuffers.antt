@@ -7,7 +7,7 @@ use Rattle.i_shape.specs.declared.flat.float.contours.FloatFlatContoursBuffer.{F
 use Rattle.i_shape.specs.declared.flat.float.shapes.FloatFlatShapesBuffer.{FloatFlatShapesBuffer}
 use Rattle.i_shape_source.specs.Paths.{concatenated}
 
--- whether the range lies in a list of n members, and isn't reversed
+-- whether the range lies within a list of n members and isn't reversed
 abbrev pub is_readable : ℕ → Range ℕ → Bool
 is_readable n range = nat_le range.start range.end && nat_le range.end n
 
@@ -26,7 +26,7 @@ pub record HasShapeLists {P : Type 0} (buffer : FloatFlatShapesBuffer P) (held :
   pub contour_ranges : buffer.contour_ranges.items ≡ named
   pub shape_ranges : buffer.shape_ranges.items ≡ grouped
 
--- the buffer of contours has room for at least that many points and contours in all
+-- the buffer of contours has room for at least so many points and contours in all
 abbrev pub HasListsRoom : {P : Type 0} → FloatFlatContoursBuffer P → ℕ → ℕ → Type 0
 HasListsRoom buffer points contours = (points ≤ vec_capacity buffer.points) × (contours ≤ vec_capacity buffer.ranges)
 
@@ -34,7 +34,7 @@ HasListsRoom buffer points contours = (points ≤ vec_capacity buffer.points) ×
 abbrev pub KeepsListsRoom : {P : Type 0} → FloatFlatContoursBuffer P → FloatFlatContoursBuffer P → Type 0
 KeepsListsRoom old new = HasListsRoom new (vec_capacity old.points) (vec_capacity old.ranges)
 
--- the buffer of shapes has room for at least that many points, contours and shapes in all
+-- the buffer of shapes has room for at least so many points, contours and shapes in all
 abbrev pub HasGroupsRoom : {P : Type 0} → FloatFlatShapesBuffer P → ℕ → ℕ → ℕ → Type 0
 HasGroupsRoom buffer points contours shapes =
     (points ≤ vec_capacity buffer.points) × (contours ≤ vec_capacity buffer.contour_ranges) × (shapes ≤ vec_capacity buffer.shape_ranges)
@@ -55,7 +55,7 @@ pub record LieEndToEnd {P : Type 0} (held : List P) (named : List (Range ℕ)) (
   pub slices : slices held named ≡ paths
   pub lent : readable_slices held named ≡ paths
 
--- all paths as one shape, or no shape where there are no paths
+-- all paths as one shape, or no shape if there are no paths
 abbrev pub in_one_shape : {P : Type 0} → List (List P) → List (List (List P))
 in_one_shape [] = []
 in_one_shape (path ∷ paths) = (path ∷ paths) ∷ []

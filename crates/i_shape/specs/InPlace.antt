@@ -8,7 +8,7 @@ use Rattle.i_shape_core.specs.declared.error.ShapeError.{ShapeError}
 use Rattle.i_shape_core.specs.declared.error.ShapeError.TheVariants.{OutOfMemory}
 use Rattle.i_shape.specs.ShapeAnswers.{ShapeClean, ListClean, EachContour, EachShape, AreKept, ListKept}
 
--- new is the result for old, or empty where there is none
+-- new is the result for old, or empty if there is none
 abbrev pub Leaves : {Y : Type 0} → (List Y → Option (List Y) → Type 0) → List Y → List Y → Type 0
 Leaves {Y} Answer old new = (answer : Option (List Y)) × Answer old answer × (new ≡ unwrap_or answer [])
 
@@ -24,7 +24,7 @@ pub record CleansInPlace {X : Type 0} (Passes : X → Type 0) (Cleans : X → X 
   -- after an error the value is unchanged, and the only error is OutOfMemory
   pub refused : (e : ShapeError) → r ≡ Err e → (e ≡ OutOfMemory) × (new ≡ old)
 
--- a contour is cleaned in place; it bounds the same (IsKept), whatever the call returned
+-- a contour is cleaned in place; it keeps its measures whatever the call returns
 pub record CleansContour (Passes : List Point → Type 0) (Answer : List Point → Option (List Point) → Type 0) (old new : List Point) (r : Result Bool ShapeError) : Type 0 where
   pub cleans : CleansInPlace Passes (Leaves Answer) old new r
   pub kept : IsKept old new
@@ -34,16 +34,16 @@ pub record CleansContour (Passes : List Point → Type 0) (Answer : List Point �
 -- spikes of a contour are removed in place
 pub record DespikesContour (old new : List Point) (r : Result Bool ShapeError) : Type 0 where
   pub contour : CleansContour NoSpikes DespikeAnswer old new r
-  -- a second call finds the contour clean exactly where it isn't empty
+  -- a second call returns that the contour is clean exactly if it isn't empty
   pub again : (b : Bool) → r ≡ Ok b → NoSpikes new ↔ (0 < length new)
   -- a contour of fewer than four points needs no memory
   pub spared : length old < 4 → IsOk r
 
--- a shape is cleaned in place; where a contour is left, the contours together keep what AreKept says
+-- a shape is cleaned in place; if a contour is left, the contours together keep their measures
 pub record CleansShape (Passes : List Point → Type 0) (Answer : List Point → Option (List Point) → Type 0) (old new : List (List Point)) (r : Result Bool ShapeError) : Type 0 where
   pub cleans : CleansInPlace (EachContour Passes) (Leaves (ShapeClean Answer)) old new r
   pub kept : 0 < length new → AreKept old new
-  -- an error comes only where a contour of three points or more doesn't pass
+  -- an error comes only if a contour of at least three points doesn't pass
   pub unclean : OnErr r (EachContour (IsShortOrClean Passes length) old → ⊥)
 
 -- a list is cleaned in place, shape by shape

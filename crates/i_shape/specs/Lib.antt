@@ -11,6 +11,7 @@ pub use Rattle.i_shape_core.specs.Filling
 pub use Rattle.i_shape_core.specs.Convex
 pub use Rattle.i_shape_core.specs.Laws
 pub use Rattle.i_shape_core.specs.Cleaners
+pub use Rattle.i_shape_core.specs.Cleaning
 pub use Rattle.i_shape_core.specs.Survivors
 pub use Rattle.i_shape_core.specs.Written
 pub use Rattle.i_shape_core.specs.Room
@@ -19,6 +20,8 @@ pub use Rattle.i_shape_core.specs.Turn
 pub use Rattle.i_shape_core.specs.Turning
 pub use Rattle.i_shape_core.specs.Refusals
 pub use Rattle.i_shape_core.specs.Canonical
+pub use Rattle.i_shape_core.specs.Heights
+pub use Rattle.i_shape_core.specs.Rings
 pub use Rattle.i_shape_source.specs.Paths
 pub use Rattle.i_shape_source.specs.ShapeLists
 pub mod Flat
@@ -28,7 +31,6 @@ pub mod Buffers
 pub mod CleanedBuffers
 pub mod Lending
 pub mod IntPoints
-pub mod AppendedAnswers
-pub mod LeftInPlace
+pub mod Steps
 pub mod FloatBuffers
 pub mod CanonicalShapes

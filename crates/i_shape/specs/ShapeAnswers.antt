@@ -1,5 +1,5 @@
 -- What cleaning leaves of a shape and of a list of shapes. `Answer` relates a contour to its cleaned contour, or to
--- none where it collapses.
+-- none if it collapses.
 use Rattle.std.specs.Prelude.{◌≡◌, List, Option, ℕ, ◌<◌, ◌%◌, ℤ, [], ◌∷◌, length, map, get_or, Some, None, IfSome}
 use Rattle.std.specs.Global.{Vec}
 use Rattle.std.specs.Int.{Width}
@@ -23,7 +23,7 @@ shape_shoelace contours = sum_of shoelace contours
 abbrev pub shapes_shoelace : List (List (List Point)) → ℤ
 shapes_shoelace shapes = sum_of shape_shoelace shapes
 
--- how many of the contours p is inside of: those of which an odd number of edges lie to the right of p
+-- the number of contours that p is inside: an odd number of their edges lie to the right of p
 unfoldable pub inside_count : List (List Point) → Point → ℕ
 inside_count contours p = sum_by (λ c. count_by (is_right p) (edges c) % 2) contours
 
@@ -42,7 +42,7 @@ abbrev pub HasShortOuter : List (List Point) → Type 0
 HasShortOuter [] = ⊥
 HasShortOuter (outer ∷ holes) = length outer < 3
 
--- a shape is left out where its outer contour collapses; otherwise its holes that collapse are left out; an empty shape
+-- a shape is left out if its outer contour collapses; otherwise its holes that collapse are left out; an empty shape
 -- stays empty
 abbrev pub ShapeClean : (List Point → Option (List Point) → Type 0) → List (List Point) → Option (List (List Point)) → Type 0
 ShapeClean Answer [] r = r ≡ Some []
@@ -54,31 +54,31 @@ ShapeClean Answer (outer ∷ holes) (Some (contour ∷ kept)) = Answer outer (So
 abbrev pub ListClean : (List Point → Option (List Point) → Type 0) → List (List (List Point)) → List (List (List Point)) → Type 0
 ListClean Answer shapes kept = Survivors (ShapeClean Answer) shapes kept
 
--- the contours that are left have the same total double area, each point is inside of as many of them, and their total
--- winding number about it is the same, also where all contours are scaled by any n
+-- the contours left have the same total double area; each point is inside as many of them and has the same total
+-- winding number, also if all contours are scaled by any n
 pub record AreKept (contours left : List (List Point)) : Type 0 where
   pub area : shape_shoelace left ≡ shape_shoelace contours
   pub inside : (p : Point) → inside_count left p ≡ inside_count contours p
   pub between : (n : ℤ) (p : Point) → shape_winding (map (moved (scaling n)) left) p ≡ shape_winding (map (moved (scaling n)) contours) p
   pub winding : (p : Point) → shape_winding left p ≡ shape_winding contours p
 
--- the cleaned shapes, each of which keeps what AreKept says
+-- the cleaned shapes, each of which keeps its shape's measures
 pub record ListKept (Answer : List Point → Option (List Point) → Type 0) (shapes kept : List (List (List Point))) : Type 0 where
   pub each : Survivors (λ shape r. ShapeClean Answer shape r × IfSome r (AreKept shape)) shapes kept
 
--- r is what cleaning leaves of a shape, where `Answer` relates a contour to its cleaned contour
+-- r is the cleaned shape, keeps its measures, and is safe; `Answer` relates a contour to its cleaned contour
 pub record IsCleanedShape (Answer : List Point → Option (List Point) → Type 0) (width : Width) (shape : List (List Point)) (r : Option (List (List Point))) : Type 0 where
   pub answer : ShapeClean Answer shape r
   pub kept : IfSome r (AreKept shape)
   pub safe : IfSome r (IsSafeShape width)
 
--- the same of a list of shapes
+-- `left` is the cleaned list, keeps the measures of each shape, and is safe
 pub record IsCleanedList (Answer : List Point → Option (List Point) → Type 0) (width : Width) (shapes left : List (List (List Point))) : Type 0 where
   pub answer : ListClean Answer shapes left
   pub kept : ListKept Answer shapes left
   pub safe : IsSafeList width left
 
--- the same in points of the program, where `value` gives the number that a coordinate represents
+-- r is the cleaned shape in points of the program; `value` returns the number that a coordinate represents
 abbrev pub CleansShapeTo : {I : Type 0} → (List Point → Option (List Point) → Type 0) → Width → (I → ℤ) → List (List Point) → Option (Vec (Vec (IntPoint I))) → Type 0
 CleansShapeTo Answer width value shape r = IsCleanedShape Answer width shape (answered (shape_of value) r)
 

@@ -9,20 +9,20 @@ use crate::flat::buffer::{FlatContoursBuffer, FlatShapesBuffer};
 use crate::flat::float::{FloatFlatContoursBuffer, FloatFlatShapesBuffer};
 use i_shape_core::number::IntNumber;
 
-/// Two buffers of contours are equal exactly where they have the same points and the same ranges.
+/// Two buffers of contours are equal exactly if they have the same points and the same ranges.
 pub fn contours_buffers_equal<T: IntNumber>(_a: &FlatContoursBuffer<T>, _b: &FlatContoursBuffer<T>)
     ensures { IsTrue (⟦<FlatContoursBuffer<T> as PartialEq>⟧.eq _a.now _b.now)
         ↔ SameLists _a.now _b.now }
 {}
 
-/// Two buffers of shapes are equal exactly where they have the same points, contour ranges and shape ranges.
+/// Two buffers of shapes are equal exactly if they have the same points, contour ranges and shape ranges.
 pub fn shapes_buffers_equal<T: IntNumber>(_a: &FlatShapesBuffer<T>, _b: &FlatShapesBuffer<T>)
     ensures { IsTrue (⟦<FlatShapesBuffer<T> as PartialEq>⟧.eq _a.now _b.now)
         ↔ SameShapeLists _a.now _b.now }
 {}
 
-/// Two buffers of contours over points of any type are equal exactly where their points are equal pair by pair, and
-/// their ranges are the same.
+/// Two buffers of contours over points of any type are equal exactly if their points are equal pair by pair, and their
+/// ranges are the same.
 pub fn float_contours_buffers_equal<P: Copy + PartialEq>(
     _a: &FloatFlatContoursBuffer<P>,
     _b: &FloatFlatContoursBuffer<P>,
@@ -32,7 +32,7 @@ pub fn float_contours_buffers_equal<P: Copy + PartialEq>(
         × (_a.now.ranges.items ≡ _b.now.ranges.items)) }
 {}
 
-/// Two buffers of shapes over points of any type are equal exactly where their points are equal pair by pair, and their
+/// Two buffers of shapes over points of any type are equal exactly if their points are equal pair by pair, and their
 /// contour ranges and shape ranges are the same.
 pub fn float_shapes_buffers_equal<P: Copy + PartialEq>(
     _a: &FloatFlatShapesBuffer<P>,

@@ -9,7 +9,7 @@ use crate::ShapeError;
 use std::alloc::{AllocError, Global};
 use std::ops::Range;
 
-/// Returns the total number of points of some contours, or `None` where it exceeds `usize::MAX`.
+/// Returns the total number of points of some contours, or `None` if it exceeds `usize::MAX`.
 pub fn checked_points_count<P>(contours: &[Vec<P>]) -> Option<usize>
     ensures { MatchOption result (usize.MAX < length (concatenated (paths_of_shape contours.now)))
         (λ n. n ≡ length (concatenated (paths_of_shape contours.now))) }
@@ -21,7 +21,7 @@ pub fn checked_points_count<P>(contours: &[Vec<P>]) -> Option<usize>
     Some(total)
 }
 
-/// Reserves capacity for `total` members in all. The members stay unchanged, after an error too.
+/// Reserves capacity for `total` members in all. The members are unchanged, also after an error.
 ///
 /// # Errors
 ///
@@ -96,7 +96,7 @@ pub fn append_ranges(list: &mut Vec<Range<usize>>, ranges: &[Range<usize>])
 ///
 /// # Errors
 ///
-/// `AllocError`, which can't occur where there is no range.
+/// `AllocError`, which can't occur if there is no range.
 pub fn copied_ranges(
     alloc: Global,
     ranges: &[Range<usize>],
@@ -116,7 +116,7 @@ pub struct Counts {
     pub contours: usize,
 }
 
-/// Returns the counts of some shapes, or `None` where one of them exceeds `usize::MAX`.
+/// Returns the counts of some shapes, or `None` if one of them exceeds `usize::MAX`.
 pub fn checked_counts<P>(shapes: &[Vec<Vec<P>>]) -> Option<Counts>
     ensures { MatchOption result ((usize.MAX < length (concatenated (paths_of_shapes shapes.now)))
         ⊎ (usize.MAX < length (paths_of_shapes shapes.now)))

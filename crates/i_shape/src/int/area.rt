@@ -17,7 +17,7 @@ use i_shape_core::number::{IntNumber, WideIntNumber};
 /// The signed area of a contour, or its sum over the contours of a shape or a list of shapes. Each contour must have at
 /// least one point; a shape or a list may be empty. Each call makes one pass and allocates nothing.
 pub trait Area<I: IntNumber> {
-    /// Twice the signed area in unbounded integers, positive where the contours run counterclockwise.
+    /// Twice the signed area in unbounded integers, positive if the contours run counterclockwise.
     ghost double_area: { Self → ℤ };
 
     /// Each contour has at least one point.

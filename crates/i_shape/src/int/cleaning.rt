@@ -7,9 +7,9 @@ ghost use Rattle.std.specs.Option.{option_to_list};
 ghost use Rattle.i_shape_core.specs.Point.{Point};
 ghost use Rattle.i_shape_core.specs.IntPoint.{contour_of, IsSafe, IsSafeContour};
 ghost use Rattle.i_shape_core.specs.Cleaners.{KeptAnswer};
-ghost use Rattle.i_shape_core.proofs.walks.Found.{simple_stays};
-ghost use Rattle.i_shape_core.proofs.answers.Kept.{simple_kept, despike_kept, spikeless_stays};
-ghost use Rattle.i_shape_core.proofs.answers.Cleaners.{simple_safe, simple_short, despike_safe, despike_short, canonical_safe, unoriented_safe};
+ghost use Rattle.i_shape_core.proofs.Walks.Found.{simple_stays};
+ghost use Rattle.i_shape_core.proofs.CleanerAnswers.Kept.{simple_kept, despike_kept, spikeless_stays};
+ghost use Rattle.i_shape_core.proofs.CleanerAnswers.Cleaners.{simple_safe, simple_short, despike_safe, despike_short, canonical_safe, unoriented_safe};
 ghost use Rattle.i_shape.specs.ShapeAnswers.{HasShortOuter, Survivors, ShapeClean, EachContour, EachShape, CleansShapeTo, CleansListTo};
 ghost use Rattle.i_shape.specs.ShapeLists.{shape_of, shapes_of, IsSafeShape, IsSafeList};
 ghost use Rattle.i_shape_core.specs.Refusals.{OkUnlessMemory};
@@ -27,20 +27,20 @@ use std::alloc::Global;
 /// A cleaner for shapes and lists: what it leaves of a contour has safe points again. `ContourDeSpiker` isn't one,
 /// since shapes without spikes keep their repeated points.
 pub trait CleanerLaws: ContourCleaner {
-    /// A result has safe points where the contour has.
-    ghost stays_safe: { (width : Width) (c e : List Point) → Self.answers c (Some e) → All (IsSafe width) c → All (IsSafe width) e };
+    /// A result has safe points if the contour has.
+    ghost stays_safe: { (width : Width) (c e : List Point) → Self.meaning.answers c (Some e) → All (IsSafe width) c → All (IsSafe width) e };
 }
 
 /// A cleaner that leaves clean contours unchanged.
 pub trait InPlaceCleaner: CleanerLaws {
     /// A clean contour is its own result.
-    ghost stays: { (c : List Point) → Self.clean c → Self.answers c (Some c) };
+    ghost stays: { (c : List Point) → Self.meaning.clean c → Self.meaning.answers c (Some c) };
 
     /// A result keeps the double area, containment and winding numbers.
-    ghost kept: { (c : List Point) (r : Option (List Point)) → Self.answers c r → KeptAnswer c r };
+    ghost kept: { (c : List Point) (r : Option (List Point)) → Self.meaning.answers c r → KeptAnswer c r };
 
     /// A contour of fewer than three points collapses.
-    ghost short: { (c : List Point) → length c < 3 → Self.answers c None };
+    ghost short: { (c : List Point) → length c < 3 → Self.meaning.answers c None };
 }
 
 impl CleanerLaws for ContourSimplifier {
@@ -78,7 +78,7 @@ impl CleanerLaws for UnorientedCanonicalizer {
 /// Returns whether no contour of the shape needs cleaning.
 pub fn is_clean_shape<I: IntNumber, C: ContourCleaner>(shape: &[IntContour<I>]) -> bool
     requires { IsSafeShape I.width (shape_of I.value shape.now) }
-    ensures { IsTrue result ↔ EachContour C.clean (shape_of I.value shape.now) }
+    ensures { IsTrue result ↔ EachContour C.meaning.clean (shape_of I.value shape.now) }
 {
     for contour in shape {
         if !C::is_clean(contour.as_slice()) {
@@ -91,7 +91,7 @@ pub fn is_clean_shape<I: IntNumber, C: ContourCleaner>(shape: &[IntContour<I>]) 
 /// Returns whether no contour of any shape needs cleaning.
 pub fn is_clean_list<I: IntNumber, C: ContourCleaner>(shapes: &[IntShape<I>]) -> bool
     requires { IsSafeList I.width (shapes_of I.value shapes.now) }
-    ensures { IsTrue result ↔ EachShape C.clean (shapes_of I.value shapes.now) }
+    ensures { IsTrue result ↔ EachShape C.meaning.clean (shapes_of I.value shapes.now) }
 {
     for shape in shapes {
         if !is_clean_shape::<I, C>(shape.as_slice()) {
@@ -101,7 +101,7 @@ pub fn is_clean_list<I: IntNumber, C: ContourCleaner>(shapes: &[IntShape<I>]) ->
     true
 }
 
-/// Appends the cleaned contour, or nothing where it collapses.
+/// Appends the cleaned contour, or nothing if it collapses.
 ///
 /// # Errors
 ///
@@ -113,7 +113,7 @@ pub fn append_contour<I: IntNumber, C: ContourCleaner>(
 ) -> Result<(), ShapeError>
     requires { IsSafeContour I.width (contour_of I.value contour.now) }
     ensures ok { OnOk result ((answer : Option (List Point))
-        × C.answers (contour_of I.value contour.now) answer
+        × C.meaning.answers (contour_of I.value contour.now) answer
         × (shape_of I.value kept.new.items ≡ shape_of I.value kept.old.items
         ++ option_to_list answer)) }
     ensures memory { IsOkUnless result ShapeError.OutOfMemory }
@@ -135,7 +135,7 @@ fn append_holes<I: IntNumber, C: ContourCleaner>(
 ) -> Result<(), ShapeError>
     requires { IsSafeShape I.width (shape_of I.value contours.now) }
     ensures ok { OnOk result ((more : List (List Point))
-        × Survivors C.answers (shape_of I.value contours.now) more
+        × Survivors C.meaning.answers (shape_of I.value contours.now) more
         × (shape_of I.value kept.new.items ≡ shape_of I.value kept.old.items ++ more)) }
     ensures memory { IsOkUnless result ShapeError.OutOfMemory }
 {
@@ -145,11 +145,11 @@ fn append_holes<I: IntNumber, C: ContourCleaner>(
     Ok(())
 }
 
-/// Returns the cleaned shape, or `None` where its outer contour collapses.
+/// Returns the cleaned shape, or `None` if its outer contour collapses.
 ///
 /// # Errors
 ///
-/// `OutOfMemory`, which can't occur for an empty shape, nor where the outer contour has fewer than three points.
+/// `OutOfMemory`, which can't occur for an empty shape, nor if the outer contour has fewer than three points.
 pub fn clean_shape<I: IntNumber, C: InPlaceCleaner>(
     cleaner: &mut C,
     alloc: Global,
@@ -157,7 +157,7 @@ pub fn clean_shape<I: IntNumber, C: InPlaceCleaner>(
 ) -> Result<Option<IntShape<I>>, ShapeError>
     requires { IsSafeShape I.width (shape_of I.value shape.now) }
     ensures answer { OkUnlessMemory result
-        (CleansShapeTo C.answers I.width I.value (shape_of I.value shape.now)) }
+        (CleansShapeTo C.meaning.answers I.width I.value (shape_of I.value shape.now)) }
     ensures none { shape_of I.value shape.now ≡ [] → IsOk result }
     ensures short { HasShortOuter (shape_of I.value shape.now) → result ≡ Ok None }
 {
@@ -173,7 +173,7 @@ pub fn clean_shape<I: IntNumber, C: InPlaceCleaner>(
     Ok(Some(kept))
 }
 
-/// Appends the cleaned shape, or nothing where its outer contour collapses.
+/// Appends the cleaned shape, or nothing if its outer contour collapses.
 fn push_cleaned_shape<I: IntNumber, C: InPlaceCleaner>(
     cleaner: &mut C,
     kept: &mut IntShapes<I>,
@@ -181,7 +181,7 @@ fn push_cleaned_shape<I: IntNumber, C: InPlaceCleaner>(
 ) -> Result<(), ShapeError>
     requires { IsSafeShape I.width (shape_of I.value shape.now) }
     ensures ok { OnOk result ((answer : Option (List (List Point)))
-        × ShapeClean C.answers (shape_of I.value shape.now) answer
+        × ShapeClean C.meaning.answers (shape_of I.value shape.now) answer
         × (shapes_of I.value kept.new.items ≡ shapes_of I.value kept.old.items
         ++ option_to_list answer)) }
     ensures memory { IsOkUnless result ShapeError.OutOfMemory }
@@ -208,7 +208,7 @@ pub fn clean_list<I: IntNumber, C: InPlaceCleaner>(
 ) -> Result<IntShapes<I>, ShapeError>
     requires { IsSafeList I.width (shapes_of I.value shapes.now) }
     ensures answer { OkUnlessMemory result
-        (CleansListTo C.answers I.width I.value (shapes_of I.value shapes.now)) }
+        (CleansListTo C.meaning.answers I.width I.value (shapes_of I.value shapes.now)) }
     ensures none { shapes_of I.value shapes.now ≡ [] → IsOk result }
 {
     let mut kept = Vec::with_capacity(alloc, shapes.len())?;

@@ -26,7 +26,7 @@ pub trait DeSpike {
     /// Relates the value before the call, the result, and the value after the call.
     ghost despike_gives: { Self → Result Bool ShapeError → Self → Type 0 };
 
-    /// Removes spikes in place. Returns false exactly where `has_no_spikes` holds of the value; the call then changes
+    /// Removes spikes in place. Returns false exactly if `has_no_spikes` holds of the value; the call then changes
     /// nothing and allocates nothing. All memory is allocated before the value changes. The points are safe after every
     /// call.
     ///
@@ -41,7 +41,7 @@ pub trait DeSpike {
 }
 
 /// A contour that collapses becomes empty. A contour of fewer than four points needs no allocation. After a call
-/// without an error, a second call returns false exactly where the contour isn't empty.
+/// without an error, a second call returns false exactly if the contour isn't empty.
 impl<I: IntNumber> DeSpike for IntContour<I> {
     ghost can_despike = { λ contour. IsSafeContour I.width (contour_of I.value contour.items) };
 
@@ -71,7 +71,7 @@ impl<I: IntNumber> DeSpike for IntShape<I> {
     }
 }
 
-/// A shape whose first contour collapses is removed. A shape that was empty stays.
+/// A shape whose first contour collapses is removed. An empty shape stays empty.
 impl<I: IntNumber> DeSpike for IntShapes<I> {
     ghost can_despike = { λ shapes. IsSafeList I.width (shapes_of I.value shapes.items) };
 

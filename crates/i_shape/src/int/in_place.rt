@@ -8,7 +8,7 @@ ghost use Rattle.i_shape_core.specs.Unclean.{LongestUnclean};
 ghost use Rattle.i_shape_source.specs.Paths.{concatenated};
 ghost use Rattle.i_shape.specs.ShapeLists.{shape_of, shapes_of, IsSafeShape, IsSafeList};
 ghost use Rattle.i_shape.specs.InPlace.{CleansShape, CleansList};
-ghost use Rattle.i_shape.specs.LeftInPlace.{IsLeftOf, AreLeftOf, HasRoom, HasRoomFor, has_points, keeps_outer, kept_contours, kept_shapes};
+ghost use Rattle.i_shape.specs.Steps.LeftInPlace.{IsLeftOf, AreLeftOf, HasRoom, HasRoomFor, has_points, keeps_outer, kept_contours, kept_shapes};
 
 use crate::int::cleaning::InPlaceCleaner;
 use crate::int::shape::{IntContour, IntShape, IntShapes};
@@ -18,7 +18,7 @@ use i_shape_core::number::IntNumber;
 use i_shape_core::point::IntPoint;
 use std::alloc::Global;
 
-/// Replaces the shape by the cleaned shape, or empties it where its outer contour collapses. Returns whether a contour
+/// Replaces the shape by the cleaned shape, or empties it if its outer contour collapses. Returns whether a contour
 /// needed cleaning. If none did, and after an error, the shape is unchanged.
 ///
 /// # Errors
@@ -28,7 +28,7 @@ pub fn clean_shape_in_place<I: IntNumber, C: InPlaceCleaner>(
     shape: &mut IntShape<I>,
 ) -> Result<bool, ShapeError>
     requires { IsSafeShape I.width (shape_of I.value shape.old.items) }
-    ensures gives { CleansShape C.clean C.answers (shape_of I.value shape.old.items)
+    ensures gives { CleansShape C.meaning.clean C.meaning.answers (shape_of I.value shape.old.items)
         (shape_of I.value shape.new.items) result }
     ensures unchanged { (result ≡ Ok true → ⊥) → shape.new ≡ shape.old }
     ensures safe { IsSafeShape I.width (shape_of I.value shape.new.items) }
@@ -52,7 +52,7 @@ pub fn clean_list_in_place<I: IntNumber, C: InPlaceCleaner>(
     shapes: &mut IntShapes<I>,
 ) -> Result<bool, ShapeError>
     requires { IsSafeList I.width (shapes_of I.value shapes.old.items) }
-    ensures gives { CleansList C.clean C.answers (shapes_of I.value shapes.old.items)
+    ensures gives { CleansList C.meaning.clean C.meaning.answers (shapes_of I.value shapes.old.items)
         (shapes_of I.value shapes.new.items) result }
     ensures unchanged { (result ≡ Ok true → ⊥) → shapes.new ≡ shapes.old }
     ensures safe { IsSafeList I.width (shapes_of I.value shapes.new.items) }
@@ -69,7 +69,7 @@ pub fn clean_list_in_place<I: IntNumber, C: InPlaceCleaner>(
 /// Returns the number of points of the longest contour that isn't clean, or `None` if all are clean.
 fn longest_unclean<I: IntNumber, C: ContourCleaner>(shape: &[IntContour<I>]) -> Option<usize>
     requires { IsSafeShape I.width (shape_of I.value shape.now) }
-    ensures { LongestUnclean (Contains (shape_of I.value shape.now)) C.clean length result }
+    ensures { LongestUnclean (Contains (shape_of I.value shape.now)) C.meaning.clean length result }
 {
     let mut longest = None;
     for contour in shape {
@@ -84,7 +84,7 @@ fn longest_unclean<I: IntNumber, C: ContourCleaner>(shape: &[IntContour<I>]) -> 
 /// Returns the number of points of the longest contour of a list that isn't clean, or `None` if all are clean.
 fn longest_unclean_of_list<I: IntNumber, C: ContourCleaner>(shapes: &[IntShape<I>]) -> Option<usize>
     requires { IsSafeList I.width (shapes_of I.value shapes.now) }
-    ensures { LongestUnclean (Contains (concatenated (shapes_of I.value shapes.now))) C.clean
+    ensures { LongestUnclean (Contains (concatenated (shapes_of I.value shapes.now))) C.meaning.clean
         length result }
 {
     let mut longest = None;
@@ -121,12 +121,12 @@ impl<I: IntNumber, C: InPlaceCleaner> InPlaceWork<I, C> {
         Ok(InPlaceWork { cleaner, copy })
     }
 
-    /// Cleans the contour in place, and empties it where it collapses.
+    /// Cleans the contour in place, and empties it if it collapses.
     fn clean_contour(&mut self, contour: &mut IntContour<I>)
         requires safe { IsSafeContour I.width (contour_of I.value contour.old.items) }
-        requires room { HasRoomFor (HasRoom C.has_room) C.clean self.old
+        requires room { HasRoomFor (HasRoom C.has_room) C.meaning.clean self.old
             (contour_of I.value contour.old.items) }
-        ensures left { IsLeftOf C.answers (contour_of I.value contour.old.items)
+        ensures left { IsLeftOf C.meaning.answers (contour_of I.value contour.old.items)
             (contour_of I.value contour.new.items) }
         ensures keeps_room { (n : ℕ) → HasRoom C.has_room self.old n
             → HasRoom C.has_room self.new n }
@@ -150,9 +150,9 @@ impl<I: IntNumber, C: InPlaceCleaner> InPlaceWork<I, C> {
     /// Cleans each contour of a shape in place.
     fn clean_contours(&mut self, shape: &mut IntShape<I>)
         requires safe { IsSafeShape I.width (shape_of I.value shape.old.items) }
-        requires room { All (HasRoomFor (HasRoom C.has_room) C.clean self.old)
+        requires room { All (HasRoomFor (HasRoom C.has_room) C.meaning.clean self.old)
             (shape_of I.value shape.old.items) }
-        ensures left { AreLeftOf C.answers (shape_of I.value shape.old.items)
+        ensures left { AreLeftOf C.meaning.answers (shape_of I.value shape.old.items)
             (shape_of I.value shape.new.items) }
         ensures keeps_room { (n : ℕ) → HasRoom C.has_room self.old n
             → HasRoom C.has_room self.new n }
@@ -165,9 +165,9 @@ impl<I: IntNumber, C: InPlaceCleaner> InPlaceWork<I, C> {
     /// Cleans each contour of each shape in place.
     fn clean_shapes(&mut self, shapes: &mut IntShapes<I>)
         requires safe { IsSafeList I.width (shapes_of I.value shapes.old.items) }
-        requires room { All (All (HasRoomFor (HasRoom C.has_room) C.clean self.old))
+        requires room { All (All (HasRoomFor (HasRoom C.has_room) C.meaning.clean self.old))
             (shapes_of I.value shapes.old.items) }
-        ensures left { AllZip (AreLeftOf C.answers) (shapes_of I.value shapes.old.items)
+        ensures left { AllZip (AreLeftOf C.meaning.answers) (shapes_of I.value shapes.old.items)
             (shapes_of I.value shapes.new.items) }
     {
         for shape in shapes.iter_mut() {
@@ -176,7 +176,7 @@ impl<I: IntNumber, C: InPlaceCleaner> InPlaceWork<I, C> {
     }
 }
 
-/// Returns whether the outer contour has points, or true where there is no contour.
+/// Returns whether the outer contour has points, or true if there is no contour.
 fn keeps_outer<I: IntNumber>(shape: &[IntContour<I>]) -> bool
     ensures { result ≡ keeps_outer (shape_of I.value shape.now) }
 {
@@ -191,7 +191,7 @@ fn remove_empty<I: IntNumber>(shape: &mut IntShape<I>)
     shape.retain(|contour| !contour.is_empty());
 }
 
-/// Removes the contours without points, or all contours where the outer one has no points.
+/// Removes the contours without points, or all contours if the outer one has no points.
 pub fn remove_collapsed<I: IntNumber>(shape: &mut IntShape<I>)
     ensures { shape_of I.value shape.new.items ≡ kept_contours (shape_of I.value shape.old.items) }
 {

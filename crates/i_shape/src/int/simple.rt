@@ -27,7 +27,7 @@ pub trait Simplify {
     /// Relates the value before the call, the result, and the value after the call.
     ghost simplify_gives: { Self → Result Bool ShapeError → Self → Type 0 };
 
-    /// Removes zero turns in place. Returns false exactly where `is_simple` holds of the value; the call then changes
+    /// Removes zero turns in place. Returns false exactly if `is_simple` holds of the value; the call then changes
     /// nothing and allocates nothing. All memory is allocated before the value changes. The points are safe after every
     /// call.
     ///
@@ -72,7 +72,7 @@ impl<I: IntNumber> Simplify for IntShape<I> {
     }
 }
 
-/// A shape whose first contour collapses is removed. A shape that was empty stays.
+/// A shape whose first contour collapses is removed. An empty shape stays empty.
 impl<I: IntNumber> Simplify for IntShapes<I> {
     ghost can_simplify = { λ shapes. IsSafeList I.width (shapes_of I.value shapes.items) };
 

@@ -1,7 +1,7 @@
 use Rattle.std.proofs.Common.{sym}
 use Rattle.std.proofs.lemmas.Bool.Decides.{Decides-and}
-use Rattle.i_shape_core.proofs.plane.Contours.{values_decided}
-use Rattle.i_shape.proofs.lists.Equality.{lists_decided, ranges_decided}
+use Rattle.i_shape_core.proofs.Plane.Contours.{values_decided}
+use Rattle.i_shape.proofs.Lists.Equality.{lists_decided, ranges_decided}
 use Rattle.i_shape.proofs.laws.contours_buffers_equal.Goals as goal
 
 pub returns : goal.returns

@@ -1,5 +1,5 @@
 use Rattle.std.proofs.lemmas.Bool.Decides.{Decides-and}
-use Rattle.i_shape.proofs.lists.Equality.{pairs_decided, ranges_decided}
+use Rattle.i_shape.proofs.Lists.Equality.{pairs_decided, ranges_decided}
 use Rattle.i_shape.proofs.laws.float_contours_buffers_equal.Goals as goal
 
 pub returns : goal.returns

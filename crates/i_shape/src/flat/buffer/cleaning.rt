@@ -72,10 +72,10 @@ fn clean_contours<T: IntNumber, C: InPlaceCleaner>(
 ) -> Result<bool, ShapeError>
     requires readable { CanReadContours buffer.old }
     requires safe { All (All (IsSafe T.width)) (contours_in T.value buffer.old) }
-    ensures gives { CleansBuffer C.clean C.answers T.width T.value buffer.old buffer.new result }
+    ensures gives { CleansBuffer C.meaning.clean C.meaning.answers T.width T.value buffer.old buffer.new result }
     ensures too_many { IsErrOf result ShapeError.TooManyPoints
         ↔ ((usize.MAX < sum_by range_len buffer.old.ranges.items)
-        × (All C.clean (contours_in T.value buffer.old) → ⊥)) }
+        × (All C.meaning.clean (contours_in T.value buffer.old) → ⊥)) }
 {
     if are_clean::<T, C>(buffer.points.as_slice(), buffer.ranges.as_slice()) {
         return Ok(false);
@@ -85,7 +85,7 @@ fn clean_contours<T: IntNumber, C: InPlaceCleaner>(
     Ok(true)
 }
 
-/// A buffer of the cleaned contours. `TooManyPoints` where the ranges name more than `usize::MAX` points together.
+/// A buffer of the cleaned contours. `TooManyPoints` if the ranges name more than `usize::MAX` points together.
 fn cleaned_parts<T: IntNumber, C: ContourCleaner>(
     alloc: Global,
     points: &[IntPoint<T>],
@@ -94,7 +94,7 @@ fn cleaned_parts<T: IntNumber, C: ContourCleaner>(
     requires readable { All (InOrder (length points.now)) ranges.now }
     requires safe { All (All (IsSafe T.width)) (read_contours T.value points.now ranges.now) }
     ensures cleaned { IfOk result
-        (λ kept. Survivors C.answers (read_contours T.value points.now ranges.now)
+        (λ kept. Survivors C.meaning.answers (read_contours T.value points.now ranges.now)
         (contours_in T.value kept)) }
     ensures end_to_end { IfOk result
         (λ kept. HoldsContours kept (slices kept.points.items kept.ranges.items)) }

@@ -62,7 +62,7 @@ impl<T: IntNumber> FlatContoursBuffer<T> {
     ///
     /// # Errors
     ///
-    /// `OutOfMemory`, which can't occur where there are none.
+    /// `OutOfMemory`, which can't occur if there are none.
     pub fn clone(&self) -> Result<Self, ShapeError>
         ensures ok { IfOk result (λ copy. SameLists self.now copy) }
         ensures none { HoldsContours self.now [] → IsOk result }
@@ -224,7 +224,7 @@ impl<T: IntNumber> FlatContoursBuffer<T> {
     ///
     /// # Errors
     ///
-    /// `OutOfMemory`, which can't occur where there is no range.
+    /// `OutOfMemory`, which can't occur if there is no range.
     pub fn to_contours(&self) -> Result<IntShape<T>, ShapeError>
         requires { CanReadContours self.now }
         ensures ok { IfOk result (λ contours. paths_of_shape contours.items
@@ -239,7 +239,7 @@ impl<T: IntNumber> FlatContoursBuffer<T> {
         )
     }
 
-    /// Returns the points that the first range names, or all points where there is no range. Requires what
+    /// Returns the points that the first range names, or all points if there is no range. Requires what
     /// `can_read_first` tests.
     pub fn as_first_contour(&self) -> &[IntPoint<T>]
         requires { CanReadFirst self.now.ranges.items (length self.now.points.items) }
@@ -259,7 +259,7 @@ impl<T: IntNumber> FlatContoursBuffer<T> {
         self.points.slice_mut(range)
     }
 
-    /// Returns the first range, or the range of all points where there is none.
+    /// Returns the first range, or the range of all points if there is none.
     fn first_range(&self) -> Range<usize>
         requires { CanReadFirst self.now.ranges.items (length self.now.points.items) }
         ensures in_order { InOrder (length self.now.points.items) result }

@@ -49,7 +49,7 @@ impl<T: IntNumber> FlatShapesBuffer<T> {
     ///
     /// # Errors
     ///
-    /// `OutOfMemory`, which can't occur where all three are 0.
+    /// `OutOfMemory`, which can't occur if all three are 0.
     pub fn with_capacity(
         alloc: Global,
         points: usize,
@@ -72,7 +72,7 @@ impl<T: IntNumber> FlatShapesBuffer<T> {
     ///
     /// # Errors
     ///
-    /// `OutOfMemory`, which can't occur where there are none.
+    /// `OutOfMemory`, which can't occur if there are none.
     pub fn clone(&self) -> Result<Self, ShapeError>
         ensures ok { IfOk result (λ copy. SameShapeLists self.now copy) }
         ensures none { HoldsShapes self.now [] → IsOk result }
@@ -257,7 +257,7 @@ impl<T: IntNumber> FlatShapesBuffer<T> {
     ///
     /// # Errors
     ///
-    /// `OutOfMemory`, which can't occur where there is no contour range.
+    /// `OutOfMemory`, which can't occur if there is no contour range.
     pub fn to_contours(&self) -> Result<IntShape<T>, ShapeError>
         requires { All (InOrder (length self.now.points.items)) self.now.contour_ranges.items }
         ensures ok { IfOk result (λ contours. paths_of_shape contours.items
@@ -277,7 +277,7 @@ impl<T: IntNumber> FlatShapesBuffer<T> {
     ///
     /// # Errors
     ///
-    /// `OutOfMemory`, which can't occur where there is no shape range.
+    /// `OutOfMemory`, which can't occur if there is no shape range.
     pub fn to_shapes(&self) -> Result<IntShapes<T>, ShapeError>
         requires { CanReadShapes self.now }
         ensures ok { IfOk result (λ list. shape_lists list.items ≡ shapes_in self.now) }

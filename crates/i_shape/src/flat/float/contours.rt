@@ -44,7 +44,7 @@ impl<P: Copy> FloatFlatContoursBuffer<P> {
     ///
     /// # Errors
     ///
-    /// `OutOfMemory`, which can't occur where both are 0.
+    /// `OutOfMemory`, which can't occur if both are 0.
     pub fn with_capacity(alloc: Global, points: usize, contours: usize) -> Result<Self, ShapeError>
         ensures ok { IfOk result (λ buffer. HasLists buffer [] []) }
         ensures room { IfOk result (λ buffer. HasListsRoom buffer points contours) }
@@ -61,7 +61,7 @@ impl<P: Copy> FloatFlatContoursBuffer<P> {
     ///
     /// # Errors
     ///
-    /// `OutOfMemory`, which can't occur where there are none.
+    /// `OutOfMemory`, which can't occur if there are none.
     pub fn clone(&self) -> Result<Self, ShapeError>
         ensures ok { IfOk result
             (λ copy. HasLists copy self.now.points.items self.now.ranges.items) }
@@ -94,7 +94,7 @@ impl<P: Copy> FloatFlatContoursBuffer<P> {
     ///
     /// # Errors
     ///
-    /// `OutOfMemory`, which can't occur where there is no range.
+    /// `OutOfMemory`, which can't occur if there is no range.
     pub fn to_contours(&self) -> Result<Vec<Contour<P>>, ShapeError>
         requires { All (InOrder (length self.now.points.items)) self.now.ranges.items }
         ensures ok { IfOk result (λ contours. paths_of_shape contours.items
@@ -215,7 +215,7 @@ impl<P: Copy> FloatFlatContoursBuffer<P> {
     /// Replaces the contents by all items of an iterator and copies of these ranges. The ranges aren't checked.
     ///
     /// Before it takes the first item, the call makes room for as many points as the upper size hint says, or the lower
-    /// one where there is no upper one, and for no fewer than the greatest end of the ranges.
+    /// one if there is no upper one, and for no fewer than the greatest end of the ranges.
     ///
     /// # Errors
     ///

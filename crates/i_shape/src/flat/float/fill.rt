@@ -11,7 +11,7 @@ use crate::flat::lists::{Counts, append_contour};
 use i_shape_source::float::resource::{ShapePoint, ShapeResource};
 use std::ops::Range;
 
-/// Returns the greatest end of some ranges, or 0 where there are none.
+/// Returns the greatest end of some ranges, or 0 if there are none.
 pub fn greatest_end(ranges: &[Range<usize>]) -> usize
     ensures bound { All (λ range. range.end ≤ result) ranges.now }
     ensures found { (result ≡ 0) ⊎ Contains (map (λ range. range.end) ranges.now) result }
@@ -50,7 +50,7 @@ pub fn append_items<P: Copy, I: Iterator<Item = P> + Drop>(
     Ok(())
 }
 
-/// Returns the numbers of points and paths of a resource, or `None` where one of them exceeds `usize::MAX`.
+/// Returns the numbers of points and paths of a resource, or `None` if one of them exceeds `usize::MAX`.
 pub fn checked_path_counts<'a, P: ShapePoint + 'a, R: ShapeResource<'a, P> + Copy>(
     resource: R,
 ) -> Option<Counts>

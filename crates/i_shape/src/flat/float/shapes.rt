@@ -49,7 +49,7 @@ impl<P: Copy> FloatFlatShapesBuffer<P> {
     ///
     /// # Errors
     ///
-    /// `OutOfMemory`, which can't occur where all three are 0.
+    /// `OutOfMemory`, which can't occur if all three are 0.
     pub fn with_capacity(
         alloc: Global,
         points: usize,
@@ -72,7 +72,7 @@ impl<P: Copy> FloatFlatShapesBuffer<P> {
     ///
     /// # Errors
     ///
-    /// `OutOfMemory`, which can't occur where there are none.
+    /// `OutOfMemory`, which can't occur if there are none.
     pub fn clone(&self) -> Result<Self, ShapeError>
         ensures ok { IfOk result (λ copy. SameGroups self.now copy) }
         ensures none { HasShapeLists self.now [] [] [] → IsOk result }
@@ -117,7 +117,7 @@ impl<P: Copy> FloatFlatShapesBuffer<P> {
     ///
     /// # Errors
     ///
-    /// `OutOfMemory`, which can't occur where there is no contour range.
+    /// `OutOfMemory`, which can't occur if there is no contour range.
     pub fn to_contours(&self) -> Result<Vec<Contour<P>>, ShapeError>
         requires { All (InOrder (length self.now.points.items)) self.now.contour_ranges.items }
         ensures ok { IfOk result (λ contours. paths_of_shape contours.items
@@ -135,7 +135,7 @@ impl<P: Copy> FloatFlatShapesBuffer<P> {
     ///
     /// # Errors
     ///
-    /// `OutOfMemory`, which can't occur where there is no shape range.
+    /// `OutOfMemory`, which can't occur if there is no shape range.
     pub fn to_shapes(&self) -> Result<Shapes<P>, ShapeError>
         requires { All
             (IsReadableShape (length self.now.points.items) self.now.contour_ranges.items)
@@ -294,7 +294,7 @@ impl<P: Copy> FloatFlatShapesBuffer<P> {
     /// Replaces the contents by all items of an iterator and copies of these ranges. The ranges aren't checked.
     ///
     /// Before it takes the first item, the call makes room for as many points as the upper size hint says, or the lower
-    /// one where there is no upper one, and for no fewer than the greatest end of the contour ranges.
+    /// one if there is no upper one, and for no fewer than the greatest end of the contour ranges.
     ///
     /// # Errors
     ///

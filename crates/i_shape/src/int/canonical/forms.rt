@@ -23,7 +23,7 @@ fn sorted_forms<I: IntNumber, C: CleanerLaws>(
 ) -> Result<IntShape<I>, ShapeError>
     requires { IsSafeShape I.width (shape_of I.value contours.now) }
     ensures answer { IfOk result
-        (λ sorted. SortedForms C.answers IsAtMost (shape_of I.value contours.now)
+        (λ sorted. SortedForms C.meaning.answers IsAtMost (shape_of I.value contours.now)
         (shape_of I.value sorted.items)) }
     ensures memory { IsOkUnless result ShapeError.OutOfMemory }
 {
@@ -35,7 +35,7 @@ fn sorted_forms<I: IntNumber, C: CleanerLaws>(
     Ok(sorted)
 }
 
-/// Returns the form of a shape, or `None` where its outer contour collapses.
+/// Returns the form of a shape, or `None` if its outer contour collapses.
 ///
 /// # Errors
 ///
@@ -47,7 +47,7 @@ pub fn shape_form<I: IntNumber, C: CleanerLaws>(
 ) -> Result<Option<IntShape<I>>, ShapeError>
     requires { IsSafeShape I.width (shape_of I.value shape.now) }
     ensures answer { IfOk result
-        (λ r. ShapeForm C.answers (shape_of I.value shape.now) (answered (shape_of I.value) r)) }
+        (λ r. ShapeForm C.meaning.answers (shape_of I.value shape.now) (answered (shape_of I.value) r)) }
     ensures safe { IfOk result
         (λ r. IfSome r (λ form. IsSafeShape I.width (shape_of I.value form.items))) }
     ensures memory { IsOkUnless result ShapeError.OutOfMemory }
@@ -65,7 +65,7 @@ pub fn shape_form<I: IntNumber, C: CleanerLaws>(
     Ok(Some(contours))
 }
 
-/// Appends the form of a shape, or nothing where its outer contour collapses.
+/// Appends the form of a shape, or nothing if its outer contour collapses.
 fn push_shape_form<I: IntNumber, C: CleanerLaws>(
     cleaner: &mut C,
     forms: &mut IntShapes<I>,
@@ -73,7 +73,7 @@ fn push_shape_form<I: IntNumber, C: CleanerLaws>(
 ) -> Result<(), ShapeError>
     requires { IsSafeShape I.width (shape_of I.value shape.now) }
     ensures ok { OnOk result ((answer : Option (List (List Point)))
-        × ShapeForm C.answers (shape_of I.value shape.now) answer
+        × ShapeForm C.meaning.answers (shape_of I.value shape.now) answer
         × (shapes_of I.value forms.new.items ≡ shapes_of I.value forms.old.items
         ++ option_to_list answer)) }
     ensures memory { IsOkUnless result ShapeError.OutOfMemory }
@@ -100,7 +100,7 @@ pub fn list_form<I: IntNumber, C: CleanerLaws>(
 ) -> Result<IntShapes<I>, ShapeError>
     requires { IsSafeList I.width (shapes_of I.value shapes.now) }
     ensures answer { IfOk result
-        (λ r. ListForm C.answers (shapes_of I.value shapes.now) (shapes_of I.value r.items)) }
+        (λ r. ListForm C.meaning.answers (shapes_of I.value shapes.now) (shapes_of I.value r.items)) }
     ensures safe { IfOk result (λ r. IsSafeList I.width (shapes_of I.value r.items)) }
     ensures memory { IsOkUnless result ShapeError.OutOfMemory }
     ensures none { shapes_of I.value shapes.now ≡ [] → IsOk result }

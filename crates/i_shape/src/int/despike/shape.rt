@@ -27,12 +27,12 @@ pub trait DeSpikeShape<I: IntNumber> {
         requires { IsSafeShape I.width (shape self.now) }
         ensures { IsTrue result ↔ EachContour NoSpikes (shape self.now) };
 
-    /// Returns a copy without spikes, or `None` where the first contour collapses. Later contours that collapse are
-    /// left out. A contour without spikes is copied unchanged, and an empty shape stays empty.
+    /// Returns a copy without spikes, or `None` if the first contour collapses. Later contours that collapse are left
+    /// out. A contour without spikes is copied unchanged, and an empty shape stays empty.
     ///
     /// # Errors
     ///
-    /// `OutOfMemory`, which can't occur for an empty shape, nor where the first contour has fewer than three points.
+    /// `OutOfMemory`, which can't occur for an empty shape, nor if the first contour has fewer than three points.
     fn despiked_shape(&self, alloc: Global) -> Result<Option<IntShape<I>>, ShapeError>
         requires { IsSafeShape I.width (shape self.now) }
         ensures answer { OkUnlessMemory result

@@ -26,12 +26,12 @@ pub trait SimpleShape<I: IntNumber> {
         requires { IsSafeShape I.width (shape self.now) }
         ensures { IsTrue result ↔ EachContour IsSimple (shape self.now) };
 
-    /// Returns a copy without zero turns, or `None` where the first contour collapses. Later contours that collapse are
+    /// Returns a copy without zero turns, or `None` if the first contour collapses. Later contours that collapse are
     /// left out. A simple contour is copied unchanged, and an empty shape stays empty.
     ///
     /// # Errors
     ///
-    /// `OutOfMemory`, which can't occur for an empty shape, nor where the first contour has fewer than three points.
+    /// `OutOfMemory`, which can't occur for an empty shape, nor if the first contour has fewer than three points.
     fn simplified(&self, alloc: Global) -> Result<Option<IntShape<I>>, ShapeError>
         requires { IsSafeShape I.width (shape self.now) }
         ensures answer { OkUnlessMemory result

@@ -1,6 +1,6 @@
 use Rattle.std.proofs.Common.{arith, ap, length}
 use Rattle.i_shape.proofs.Common.{paths_of_shape, concatenated}
-use Rattle.i_shape.proofs.lists.EndToEnd.{all_points_step, all_ranges_step, all_length_step, all_length_within, length_step, length_within, as_contours}
+use Rattle.i_shape.proofs.Lists.EndToEnd.{all_points_step, all_ranges_step, all_length_step, all_length_within, length_step, length_within, as_contours}
 use Rattle.i_shape.proofs.flat.lists.append_all_contours.Goals as goal
 
 pub append_contours-requires-clause-points_room : goal.append_contours-requires-clause-points_room

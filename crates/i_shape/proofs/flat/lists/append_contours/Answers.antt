@@ -1,5 +1,5 @@
 use Rattle.std.proofs.Common.{arith, ap, length}
-use Rattle.i_shape.proofs.lists.EndToEnd.{points_step, ranges_step, length_step, length_within}
+use Rattle.i_shape.proofs.Lists.EndToEnd.{points_step, ranges_step, length_step, length_within}
 use Rattle.i_shape.proofs.flat.lists.append_contours.Goals as goal
 
 pub append_contour-requires-clause-points_room : goal.append_contour-requires-clause-points_room

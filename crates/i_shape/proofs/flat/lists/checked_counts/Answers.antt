@@ -1,6 +1,6 @@
 use Rattle.std.proofs.Common.{arith, length, ap, inl, inr, refl, ◌∙◌}
 use Rattle.i_shape.proofs.Common.{paths_of_shape, concatenated}
-use Rattle.i_shape.proofs.lists.EndToEnd.{all_length_step, all_length_within, length_step, length_within, as_contours}
+use Rattle.i_shape.proofs.Lists.EndToEnd.{all_length_step, all_length_within, length_step, length_within, as_contours}
 use Rattle.i_shape.proofs.flat.lists.checked_counts.Goals as goal
 
 pub returns-in_err-checked_points_count : goal.returns-in_err-checked_points_count

@@ -1,5 +1,5 @@
 use Rattle.std.proofs.Common.{arith}
-use Rattle.i_shape.proofs.lists.EndToEnd.{length_step, length_within}
+use Rattle.i_shape.proofs.Lists.EndToEnd.{length_step, length_within}
 use Rattle.i_shape.proofs.flat.lists.checked_points_count.Goals as goal
 
 pub returns-in_err-total : goal.returns-in_err-total

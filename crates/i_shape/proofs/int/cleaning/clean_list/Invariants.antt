@@ -5,4 +5,4 @@ use Rattle.i_shape.proofs.int.cleaning.clean_list.Given as goal
 abbrev pub invariant-loop-shape : goal.invariant-loop-shape
 invariant-loop-shape g l =
     let value = g.I.IntNumber.value in
-    ListClean g.C.ContourCleaner.answers (shapes_of value (take l.shape-index l.shapes)) (shapes_of value l.kept.items)
+    ListClean g.C.ContourCleaner.meaning.answers (shapes_of value (take l.shape-index l.shapes)) (shapes_of value l.kept.items)

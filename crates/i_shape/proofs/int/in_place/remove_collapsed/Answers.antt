@@ -1,6 +1,6 @@
 use Rattle.std.proofs.Common.{◌∙◌, sym, ap}
 use Rattle.i_shape.proofs.Common.{shape_of, keeps_outer}
-use Rattle.i_shape.proofs.in_place.Left.{outer_kept}
+use Rattle.i_shape.proofs.InPlace.Left.{outer_kept}
 use Rattle.i_shape.proofs.int.in_place.remove_collapsed.Goals as goal
 
 pub returns-then-keeps_outer : goal.returns-then-keeps_outer

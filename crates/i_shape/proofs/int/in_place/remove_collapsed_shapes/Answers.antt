@@ -2,7 +2,7 @@ use Rattle.std.proofs.Common.{rules, arith, ◌≡◌, Bool, ◌∙◌, ap, map,
 use Rattle.std.proofs.lemmas.Slice.Zip.{AllZip-map}
 use Rattle.std.proofs.lemmas.Fn.{filter_same}
 use Rattle.i_shape.proofs.Common.{Vec, IntPoint, shape_of, shapes_of, has_points, keeps_outer}
-use Rattle.i_shape.proofs.in_place.Left.{filter_read, so_far_none, so_far_set, so_far_all}
+use Rattle.i_shape.proofs.InPlace.Left.{filter_read, so_far_none, so_far_set, so_far_all}
 use Rattle.i_shape.proofs.int.in_place.remove_collapsed_shapes.Goals as goal
 
 pub loop-shape-init : goal.loop-shape-init

@@ -1,6 +1,6 @@
 use Rattle.std.proofs.Common.{◌≡◌, filter}
 use Rattle.i_shape.proofs.Common.{shapes_of, has_points}
-use Rattle.i_shape.proofs.in_place.Left.{SoFar}
+use Rattle.i_shape.proofs.InPlace.Left.{SoFar}
 use Rattle.i_shape.proofs.int.in_place.remove_collapsed_shapes.Given as goal
 
 abbrev pub invariant-loop-shape : goal.invariant-loop-shape

@@ -1,7 +1,7 @@
 use Rattle.std.proofs.Common.{rules, ◌≡◌, Bool, ◌∙◌, ap, filter}
 use Rattle.std.proofs.lemmas.Fn.{filter_same}
 use Rattle.i_shape.proofs.Common.{Vec, contour_of, IntPoint, shape_of, has_points}
-use Rattle.i_shape.proofs.in_place.Left.{has_points_told, filter_read}
+use Rattle.i_shape.proofs.InPlace.Left.{has_points_told, filter_read}
 use Rattle.i_shape.proofs.int.in_place.remove_empty.Goals as goal
 
 pub returns : goal.returns

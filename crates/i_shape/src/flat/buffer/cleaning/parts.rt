@@ -8,7 +8,7 @@ ghost use Rattle.i_shape_core.specs.declared.point.IntPoint.{IntPoint};
 ghost use Rattle.i_shape.specs.ShapeAnswers.{Survivors};
 ghost use Rattle.i_shape.specs.Flat.{InOrder, part_of};
 ghost use Rattle.i_shape.specs.Buffers.{range_len, contours_of, read_contours};
-ghost use Rattle.i_shape.specs.AppendedAnswers.{Grows};
+ghost use Rattle.i_shape.specs.Steps.AppendedAnswers.{Grows};
 
 use crate::ShapeError;
 use crate::int::IntPoint;
@@ -31,7 +31,7 @@ pub fn are_clean<T: IntNumber, C: ContourCleaner>(
 ) -> bool
     requires readable { All (InOrder (length points.now)) ranges.now }
     requires safe { All (All (IsSafe T.width)) (read_contours T.value points.now ranges.now) }
-    ensures { IsTrue result ↔ All C.clean (read_contours T.value points.now ranges.now) }
+    ensures { IsTrue result ↔ All C.meaning.clean (read_contours T.value points.now ranges.now) }
 {
     for range in ranges {
         if !C::is_clean(part(points, range)) {
@@ -41,7 +41,7 @@ pub fn are_clean<T: IntNumber, C: ContourCleaner>(
     true
 }
 
-/// Returns how many points the ranges name together, or `None` where that exceeds `usize::MAX`.
+/// Returns how many points the ranges name together, or `None` if that exceeds `usize::MAX`.
 pub fn checked_total(ranges: &[Range<usize>]) -> Option<usize>
     ensures { MatchOption result (usize.MAX < sum_by range_len ranges.now)
         (λ n. n ≡ sum_by range_len ranges.now) }
@@ -53,7 +53,7 @@ pub fn checked_total(ranges: &[Range<usize>]) -> Option<usize>
     Some(total)
 }
 
-/// Appends the cleaned contour, written over its copy at the end of `points`, or nothing where it collapses. Returns
+/// Appends the cleaned contour, written over its copy at the end of `points`, or nothing if it collapses. Returns
 /// whether anything is left of it.
 ///
 /// # Errors
@@ -67,7 +67,7 @@ pub fn append_cleaned<T: IntNumber, C: ContourCleaner>(
 ) -> Result<bool, ShapeError>
     requires { IsSafeContour T.width (contour_of T.value contour.now) }
     ensures ok { IfOk result (λ left. (answer : Option (List (IntPoint T)))
-        × C.answers (contour_of T.value contour.now) (option_map (contour_of T.value) answer)
+        × C.meaning.answers (contour_of T.value contour.now) (option_map (contour_of T.value) answer)
         × Grows points.old.items points.new.items ranges.old.items
         ranges.new.items (option_to_list answer) × (left ≡ is_some answer)) }
     ensures memory { IsOkUnless result ShapeError.OutOfMemory }
@@ -99,7 +99,7 @@ pub fn append_parts<T: IntNumber, C: ContourCleaner>(
     requires readable { All (InOrder (length source.now)) named.now }
     requires safe { All (All (IsSafe T.width)) (read_contours T.value source.now named.now) }
     ensures ok { OnOk result ((more : List (List (IntPoint T)))
-        × Survivors C.answers (read_contours T.value source.now named.now)
+        × Survivors C.meaning.answers (read_contours T.value source.now named.now)
         (contours_of T.value more) × Grows points.old.items
         points.new.items ranges.old.items ranges.new.items more) }
     ensures memory { IsOkUnless result ShapeError.OutOfMemory }

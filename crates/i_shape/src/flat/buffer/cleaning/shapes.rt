@@ -9,7 +9,7 @@ ghost use Rattle.i_shape.specs.ShapeLists.{IsSafeShape, IsSafeList};
 ghost use Rattle.i_shape.specs.ShapeAnswers.{ListClean, EachShape};
 ghost use Rattle.i_shape.specs.Flat.{InOrder, IsReadableShape, part_of, slices};
 ghost use Rattle.i_shape.specs.Buffers.{CanReadShapes, HoldsShapes, shapes_in, contours_of, named_shapes, named_points, named_contours, read_shapes};
-ghost use Rattle.i_shape.specs.AppendedAnswers.{AppendsShapeAnswer};
+ghost use Rattle.i_shape.specs.Steps.AppendedAnswers.{AppendsShapeAnswer};
 ghost use Rattle.i_shape.specs.CleanedBuffers.{CleansShapesBuffer};
 
 use crate::ShapeError;
@@ -80,14 +80,14 @@ fn clean_shapes<T: IntNumber, C: InPlaceCleaner>(
 ) -> Result<bool, ShapeError>
     requires readable { CanReadShapes buffer.old }
     requires safe { IsSafeList T.width (named_shapes T.value buffer.old) }
-    ensures gives { CleansShapesBuffer C.clean C.answers
+    ensures gives { CleansShapesBuffer C.meaning.clean C.meaning.answers
         T.width T.value buffer.old buffer.new result }
     ensures too_many { IsErrOf result ShapeError.TooManyPoints
         ↔ (((usize.MAX
         < named_points buffer.old.contour_ranges.items buffer.old.shape_ranges.items)
         ⊎ (usize.MAX
         < named_contours buffer.old.contour_ranges.items buffer.old.shape_ranges.items))
-        × (EachShape C.clean (named_shapes T.value buffer.old) → ⊥)) }
+        × (EachShape C.meaning.clean (named_shapes T.value buffer.old) → ⊥)) }
 {
     if are_clean_shapes::<T, C>(
         buffer.points.as_slice(),
@@ -106,7 +106,7 @@ fn clean_shapes<T: IntNumber, C: InPlaceCleaner>(
     Ok(true)
 }
 
-/// Returns the contour ranges that a shape range names, none where it is empty or reversed.
+/// Returns the contour ranges that a shape range names, none if it is empty or reversed.
 fn named_ranges<'a>(contour_ranges: &'a [Range<usize>], range: &Range<usize>) -> &'a [Range<usize>]
     requires { range.now.start < range.now.end → range.now.end ≤ length contour_ranges.now }
     ensures { result.now ≡ part_of contour_ranges.now range.now }
@@ -129,7 +129,7 @@ fn are_clean_shapes<T: IntNumber, C: ContourCleaner>(
     requires safe { IsSafeList T.width
         (read_shapes T.value points.now contour_ranges.now shape_ranges.now) }
     ensures { IsTrue result
-        ↔ EachShape C.clean (read_shapes T.value points.now contour_ranges.now shape_ranges.now) }
+        ↔ EachShape C.meaning.clean (read_shapes T.value points.now contour_ranges.now shape_ranges.now) }
 {
     for range in shape_ranges {
         if !are_clean::<T, C>(points, named_ranges(contour_ranges, range)) {
@@ -139,8 +139,7 @@ fn are_clean_shapes<T: IntNumber, C: ContourCleaner>(
     true
 }
 
-/// Returns how many points and contours the shapes have together, or `None` where one of the numbers exceeds
-/// `usize::MAX`.
+/// Returns how many points and contours the shapes have together, or `None` if one of the numbers exceeds `usize::MAX`.
 fn checked_named(contour_ranges: &[Range<usize>], shape_ranges: &[Range<usize>]) -> Option<Counts>
     requires { All (λ range. range.start < range.end → range.end ≤ length contour_ranges.now)
         shape_ranges.now }
@@ -159,7 +158,7 @@ fn checked_named(contour_ranges: &[Range<usize>], shape_ranges: &[Range<usize>])
     Some(Counts { points, contours })
 }
 
-/// Appends the cleaned shape that contour ranges name, or nothing where its first contour collapses.
+/// Appends the cleaned shape that contour ranges name, or nothing if its first contour collapses.
 fn append_cleaned_shape<T: IntNumber, C: ContourCleaner>(
     cleaner: &mut C,
     kept: &mut FlatShapesBuffer<T>,
@@ -169,7 +168,7 @@ fn append_cleaned_shape<T: IntNumber, C: ContourCleaner>(
     requires readable { All (InOrder (length source.now)) named.now }
     requires safe { IsSafeShape T.width (contours_of T.value (slices source.now named.now)) }
     ensures ok { OnOk result
-        (AppendsShapeAnswer C.answers T.value (slices source.now named.now) kept.old kept.new) }
+        (AppendsShapeAnswer C.meaning.answers T.value (slices source.now named.now) kept.old kept.new) }
     ensures memory { IsOkUnless result ShapeError.OutOfMemory }
 {
     let start = kept.contour_ranges.len();
@@ -211,7 +210,7 @@ fn cleaned_shapes<T: IntNumber, C: ContourCleaner>(
     requires safe { IsSafeList T.width
         (read_shapes T.value points.now contour_ranges.now shape_ranges.now) }
     ensures cleaned { IfOk result
-        (λ kept. ListClean C.answers
+        (λ kept. ListClean C.meaning.answers
         (read_shapes T.value points.now contour_ranges.now shape_ranges.now)
         (named_shapes T.value kept)) }
     ensures end_to_end { IfOk result (λ kept. HoldsShapes kept (shapes_in kept)) }

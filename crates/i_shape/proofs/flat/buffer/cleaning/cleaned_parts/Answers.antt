@@ -1,6 +1,6 @@
 use Rattle.std.proofs.Common.{ap, map}
 use Rattle.i_shape.proofs.Common.{contour_of, FlatContoursBuffer}
-use Rattle.i_shape.proofs.buffers.CleanedShapes.{grown_held, held_slices}
+use Rattle.i_shape.proofs.Buffers.CleanedShapes.{grown_held, held_slices}
 use Rattle.i_shape.proofs.flat.buffer.cleaning.cleaned_parts.Goals as goal
 
 pub returns-clause-cleaned : goal.returns-clause-cleaned

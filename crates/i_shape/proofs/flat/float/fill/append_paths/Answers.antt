@@ -2,8 +2,8 @@ use Rattle.std.proofs.Common.{rules, arith, refl, subst}
 use Rattle.std.specs.Iterator.{Yields}
 use Rattle.i_shape_source.proofs.Lent.{saw_all}
 use Rattle.i_shape.proofs.Common.{path_of}
-use Rattle.i_shape.proofs.lists.EndToEnd.{count_push, length_push, points_push, ranges_push}
-use Rattle.i_shape.proofs.buffers.LentPaths.{points_within}
+use Rattle.i_shape.proofs.Lists.EndToEnd.{count_push, length_push, points_push, ranges_push}
+use Rattle.i_shape.proofs.Buffers.LentPaths.{points_within}
 use Rattle.i_shape.proofs.flat.float.fill.append_paths.Goals as goal
 
 pub append_contour-requires-clause-points_room : goal.append_contour-requires-clause-points_room

@@ -2,8 +2,8 @@ use Rattle.std.proofs.Common.{rules, arith, subst, ◌≡◌, ◌+◌, length}
 use Rattle.std.specs.Iterator.{Yields}
 use Rattle.i_shape_source.proofs.Lent.{saw_all}
 use Rattle.i_shape.proofs.Common.{path_of}
-use Rattle.i_shape.proofs.lists.EndToEnd.{count_push, length_push}
-use Rattle.i_shape.proofs.buffers.LentPaths.{points_within}
+use Rattle.i_shape.proofs.Lists.EndToEnd.{count_push, length_push}
+use Rattle.i_shape.proofs.Buffers.LentPaths.{points_within}
 use Rattle.i_shape.proofs.flat.float.fill.checked_path_counts.Goals as goal
 
 pub returns-in_err-points : goal.returns-in_err-points

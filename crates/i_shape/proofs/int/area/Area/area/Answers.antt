@@ -1,5 +1,5 @@
 use Rattle.std.proofs.Common.{◌∙◌, ap}
-use Rattle.i_shape_core.proofs.measure.AreaWalk.{half-fits}
+use Rattle.i_shape_core.proofs.Sums.AreaWalk.{half-fits}
 use Rattle.i_shape.proofs.int.area.Area.area.Goals as goal
 
 pub divide-requires-clause-fits : goal.divide-requires-clause-fits

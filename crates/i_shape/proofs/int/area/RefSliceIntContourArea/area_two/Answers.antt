@@ -1,7 +1,7 @@
 use Rattle.std.proofs.Common.{◌∙◌, ap, subst, sym}
 use Rattle.i_shape.proofs.Common.{int_wrap, contour_of, shoelace, HasPoints}
-use Rattle.i_shape.proofs.lists.Surviving.{mapped-read}
-use Rattle.i_shape.proofs.lists.WrappedSums.{sum-more}
+use Rattle.i_shape.proofs.Lists.Surviving.{mapped-read}
+use Rattle.i_shape.proofs.Lists.WrappedSums.{sum-more}
 use Rattle.i_shape.proofs.int.area.RefSliceIntContourArea.area_two.Goals as goal
 
 pub area_two-requires : goal.area_two-requires

@@ -1,5 +1,5 @@
 use Rattle.i_shape.proofs.Common.{contour_of, shoelace}
-use Rattle.i_shape.proofs.lists.WrappedSums.{IsSummedUp}
+use Rattle.i_shape.proofs.Lists.WrappedSums.{IsSummedUp}
 use Rattle.i_shape.proofs.int.area.RefSliceIntContourArea.area_two.Given as goal
 
 abbrev pub invariant-loop-contour : goal.invariant-loop-contour

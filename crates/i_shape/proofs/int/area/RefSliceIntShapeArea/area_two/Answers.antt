@@ -1,7 +1,7 @@
 use Rattle.std.proofs.Common.{◌∙◌, ap, subst, sym, All}
 use Rattle.i_shape.proofs.Common.{int_wrap, shape_of, HasPoints, shape_shoelace}
-use Rattle.i_shape.proofs.lists.Surviving.{mapped-read}
-use Rattle.i_shape.proofs.lists.WrappedSums.{sum-more}
+use Rattle.i_shape.proofs.Lists.Surviving.{mapped-read}
+use Rattle.i_shape.proofs.Lists.WrappedSums.{sum-more}
 use Rattle.i_shape.proofs.int.area.RefSliceIntShapeArea.area_two.Goals as goal
 
 pub area_two-requires : goal.area_two-requires

@@ -1,5 +1,5 @@
 use Rattle.i_shape.proofs.Common.{shape_of, shape_shoelace}
-use Rattle.i_shape.proofs.lists.WrappedSums.{IsSummedUp}
+use Rattle.i_shape.proofs.Lists.WrappedSums.{IsSummedUp}
 use Rattle.i_shape.proofs.int.area.RefSliceIntShapeArea.area_two.Given as goal
 
 abbrev pub invariant-loop-shape : goal.invariant-loop-shape

@@ -1,7 +1,7 @@
 use Rattle.std.proofs.Common.{Some, rules, All}
 use Rattle.std.proofs.lemmas.List.Elements.{All-head, All-tail}
 use Rattle.i_shape.proofs.Common.{contour_of, IsSafe, shape_of, ShapeForm}
-use Rattle.i_shape.proofs.shapes.Forms.{form_safe}
+use Rattle.i_shape.proofs.Shapes.Forms.{form_safe}
 use Rattle.i_shape.proofs.int.canonical.forms.shape_form.Goals as goal
 
 pub cleaned-requires : goal.cleaned-requires
@@ -18,5 +18,5 @@ sorted_forms-requires g c =
 pub returns-clause-safe : goal.returns-clause-safe
 returns-clause-safe g c =
     let value = g.I.IntNumber.value in
-    let answer : ShapeForm g.C.ContourCleaner.answers (shape_of value c.args.shape.now) (Some (shape_of value c.insert.new.self.items)) = search rules in
-    form_safe g.C.ContourCleaner.answers g.I.IntNumber.width (g.met.C.CleanerLaws.stays_safe g.I.IntNumber.width) _ _ answer c.requires
+    let answer : ShapeForm g.C.ContourCleaner.meaning.answers (shape_of value c.args.shape.now) (Some (shape_of value c.insert.new.self.items)) = search rules in
+    form_safe g.C.ContourCleaner.meaning.answers g.I.IntNumber.width (g.met.C.CleanerLaws.stays_safe g.I.IntNumber.width) _ _ answer c.requires

@@ -2,10 +2,10 @@ use Rattle.std.proofs.Common.{All, take_all}
 use Rattle.std.specs.Cmp.Lexicographic.{slice_cmp}
 use Rattle.std.proofs.lemmas.Cmp.{on_total, lists_total}
 use Rattle.std.proofs.lemmas.List.Sorted.{IsPermutation-map}
-use Rattle.i_shape_core.proofs.forms.ContourOrder.{point_cmp, points_told, points_total, contours_told, contour_told}
-use Rattle.i_shape.proofs.shapes.SortedOrders.{sorted_pairs}
+use Rattle.i_shape_core.proofs.Forms.ContourOrder.{point_cmp, points_told, points_total, contours_told, contour_told}
+use Rattle.i_shape.proofs.Shapes.SortedOrders.{sorted_pairs}
 use Rattle.i_shape.proofs.Common.{point_of, contour_of, IsSafe, IsAtMost, shape_of}
-use Rattle.i_shape.proofs.lists.Surviving.{mapped-read, survivors-more}
+use Rattle.i_shape.proofs.Lists.Surviving.{mapped-read, survivors-more}
 use Rattle.i_shape.proofs.int.canonical.forms.sorted_forms.Goals as goal
 
 pub append_contour-requires : goal.append_contour-requires
@@ -17,7 +17,7 @@ pub loop-contour-preserved : goal.loop-contour-preserved
 loop-contour-preserved g c =
     let value = g.I.IntNumber.value in
     let step = c.in_ok-append_contour.ensures.ok in
-    rw step.2 (survivors-more (λ v. contour_of value v.items) g.C.ContourCleaner.answers c.args.contours.now c.loop-contour.contour-index c.contour-item.result (shape_of value c.loop-contour.sorted.items) step.0 c.loop-contour-test.true c.contour-item.is c.loop-contour.invariant (rw c.as_slice.ensures.value at step.1))
+    rw step.2 (survivors-more (λ v. contour_of value v.items) g.C.ContourCleaner.meaning.answers c.args.contours.now c.loop-contour.contour-index c.contour-item.result (shape_of value c.loop-contour.sorted.items) step.0 c.loop-contour-test.true c.contour-item.is c.loop-contour.invariant (rw c.as_slice.ensures.value at step.1))
 
 pub returns-clause-answer : goal.returns-clause-answer
 returns-clause-answer g c =

@@ -1,5 +1,5 @@
 use Rattle.i_shape.proofs.Common.{shapes_of}
-use Rattle.i_shape.proofs.shapes.Forms.{canonical_has_list, unoriented_has_list}
+use Rattle.i_shape.proofs.Shapes.Forms.{canonical_has_list, unoriented_has_list}
 use Rattle.i_shape.proofs.int.canonical.laws.list_forms.Goals as goal
 
 pub returns : goal.returns

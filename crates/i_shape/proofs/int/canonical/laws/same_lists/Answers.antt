@@ -1,5 +1,5 @@
 use Rattle.i_shape.proofs.Common.{shapes_of}
-use Rattle.i_shape.proofs.shapes.Forms.{canonical_lists, unoriented_lists}
+use Rattle.i_shape.proofs.Shapes.Forms.{canonical_lists, unoriented_lists}
 use Rattle.i_shape.proofs.int.canonical.laws.same_lists.Goals as goal
 
 pub returns : goal.returns

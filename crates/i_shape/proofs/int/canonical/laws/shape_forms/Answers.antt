@@ -1,5 +1,5 @@
 use Rattle.i_shape.proofs.Common.{shape_of}
-use Rattle.i_shape.proofs.shapes.Forms.{canonical_has_shape, unoriented_has_shape}
+use Rattle.i_shape.proofs.Shapes.Forms.{canonical_has_shape, unoriented_has_shape}
 use Rattle.i_shape.proofs.int.canonical.laws.shape_forms.Goals as goal
 
 pub returns : goal.returns

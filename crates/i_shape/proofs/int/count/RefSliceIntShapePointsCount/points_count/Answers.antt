@@ -1,5 +1,5 @@
 use Rattle.std.proofs.Common.{vec_len, sum_by}
-use Rattle.i_shape.proofs.lists.WrappedSums.{count-rest}
+use Rattle.i_shape.proofs.Lists.WrappedSums.{count-rest}
 use Rattle.i_shape.proofs.int.count.RefSliceIntShapePointsCount.points_count.Goals as goal
 
 pub loop-shape-preserved : goal.loop-shape-preserved

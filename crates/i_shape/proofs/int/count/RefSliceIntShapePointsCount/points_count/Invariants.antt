@@ -1,5 +1,5 @@
 use Rattle.std.proofs.Common.{vec_len, sum_by}
-use Rattle.i_shape.proofs.lists.WrappedSums.{IsCounted}
+use Rattle.i_shape.proofs.Lists.WrappedSums.{IsCounted}
 use Rattle.i_shape.proofs.int.count.RefSliceIntShapePointsCount.points_count.Given as goal
 
 abbrev pub invariant-loop-shape : goal.invariant-loop-shape

@@ -1,7 +1,7 @@
 use Rattle.std.proofs.Common.{arith, ap}
 use Rattle.i_shape.proofs.Common.{contour_of}
-use Rattle.i_shape_core.proofs.plane.Contours.{refuted_by_test}
-use Rattle.i_shape.proofs.in_place.Spikes.{spikeless_stays_in_place, spikes_collapse}
+use Rattle.i_shape_core.proofs.Plane.Contours.{refuted_by_test}
+use Rattle.i_shape.proofs.InPlace.Spikes.{spikeless_stays_in_place, spikes_collapse}
 use Rattle.i_shape.proofs.int.despike.IntContourDeSpike.remove_spikes.Goals as goal
 
 pub returns-then-has_no_spikes-clause-gives : goal.returns-then-has_no_spikes-clause-gives

@@ -1,6 +1,6 @@
 use Rattle.std.proofs.Common.{arith, All}
 use Rattle.i_shape.proofs.Common.{contour_of, IsSafe, shape_of, HasRoom, HasRoomFor}
-use Rattle.i_shape.proofs.in_place.Left.{so_far_none, so_far_holds, so_far_set, so_far_all}
+use Rattle.i_shape.proofs.InPlace.Left.{so_far_none, so_far_holds, so_far_set, so_far_all}
 use Rattle.i_shape.proofs.int.in_place.InPlaceWork.clean_contours.Goals as goal
 
 pub loop-contour-init : goal.loop-contour-init
@@ -16,7 +16,7 @@ pub clean_contour-requires-clause-room : goal.clean_contour-requires-clause-room
 clean_contour-requires-clause-room g c =
     let had = so_far_holds _ (λ v. contour_of g.I.IntNumber.value v.items) c.deref_mut-contour-items.result.now c.loop-contour.contour-items c.loop-contour.contour-index
     (omega (arith, c.loop-contour.auto.contour-items)) c.loop-contour.invariant.left c.contour-item.result (omega (arith, c.loop-contour-test.true, c.loop-contour.auto.contour-items))
-    (HasRoomFor (HasRoom g.C.ContourCleaner.has_room) g.C.ContourCleaner.clean c.args.self.now) (rw c.deref_mut-contour-items.ensures.value c.requires.room) in
+    (HasRoomFor (HasRoom g.C.ContourCleaner.has_room) g.C.ContourCleaner.meaning.clean c.args.self.now) (rw c.deref_mut-contour-items.ensures.value c.requires.room) in
     λ fails. c.loop-contour.invariant.keeps_room _ (had fails)
 
 pub loop-contour-preserved : goal.loop-contour-preserved

@@ -1,6 +1,6 @@
 use Rattle.std.proofs.Common.{arith, All}
 use Rattle.i_shape.proofs.Common.{shape_of, shapes_of, IsSafeShape, HasRoom, HasRoomFor}
-use Rattle.i_shape.proofs.in_place.Left.{so_far_none, so_far_holds, so_far_set, so_far_all}
+use Rattle.i_shape.proofs.InPlace.Left.{so_far_none, so_far_holds, so_far_set, so_far_all}
 use Rattle.i_shape.proofs.int.in_place.InPlaceWork.clean_shapes.Goals as goal
 
 pub loop-shape-init : goal.loop-shape-init
@@ -16,7 +16,7 @@ pub clean_contours-requires-clause-room : goal.clean_contours-requires-clause-ro
 clean_contours-requires-clause-room g c =
     let had = so_far_holds _ (λ v. shape_of g.I.IntNumber.value v.items) c.deref_mut-shape-items.result.now c.loop-shape.shape-items c.loop-shape.shape-index
     (omega (arith, c.loop-shape.auto.shape-items)) c.loop-shape.invariant.left c.shape-item.result (omega (arith, c.loop-shape-test.true, c.loop-shape.auto.shape-items))
-    (All (HasRoomFor (HasRoom g.C.ContourCleaner.has_room) g.C.ContourCleaner.clean c.args.self.now)) (rw c.deref_mut-shape-items.ensures.value c.requires.room) in
+    (All (HasRoomFor (HasRoom g.C.ContourCleaner.has_room) g.C.ContourCleaner.meaning.clean c.args.self.now)) (rw c.deref_mut-shape-items.ensures.value c.requires.room) in
     λ k d lt fails. c.loop-shape.invariant.keeps_room _ (had k d lt fails)
 
 pub loop-shape-preserved : goal.loop-shape-preserved

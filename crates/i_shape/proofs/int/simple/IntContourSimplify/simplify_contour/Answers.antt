@@ -1,10 +1,10 @@
 use Rattle.std.proofs.Common.{rules, arith, ap}
 use Rattle.std.proofs.lemmas.Grind.{common_steps}
 use Rattle.i_shape.proofs.Common.{contour_of, IsSimple, SimpleAnswer}
-use Rattle.i_shape_core.proofs.answers.Kept.{keeps_itself, collapsed_flat}
-use Rattle.i_shape_core.proofs.walks.Found.{simple_stays}
-use Rattle.i_shape_core.proofs.plane.Contours.{refuted_by_test}
-use Rattle.i_shape.proofs.in_place.Contours.{contour_stays, contour_collapses}
+use Rattle.i_shape_core.proofs.CleanerAnswers.Kept.{keeps_itself, collapsed_flat}
+use Rattle.i_shape_core.proofs.Walks.Found.{simple_stays}
+use Rattle.i_shape_core.proofs.Plane.Contours.{refuted_by_test}
+use Rattle.i_shape.proofs.InPlace.Contours.{contour_stays, contour_collapses}
 use Rattle.i_shape.proofs.int.simple.IntContourSimplify.simplify_contour.Goals as goal
 
 pub returns-then-is_simple-clause-gives : goal.returns-then-is_simple-clause-gives

@@ -3,7 +3,7 @@ use Rattle.std.proofs.lemmas.Bool.{cases_eq}
 use Rattle.std.proofs.lemmas.List.{get_or-map, length-map}
 use Rattle.i_shape.proofs.Common.{point_of, contour_of, IsSafe}
 use Rattle.i_shape.specs.Boundary.{IsOnEdge}
-use Rattle.i_shape.proofs.lists.Surviving.{mapped-read}
+use Rattle.i_shape.proofs.Lists.Surviving.{mapped-read}
 use Rattle.i_shape.proofs.int.winding.RefSliceIntContourShapeExtension.is_on_boundary.Goals as goal
 
 pub is_on_boundary-requires-clause-points_safe : goal.is_on_boundary-requires-clause-points_safe

@@ -1,8 +1,8 @@
 use Rattle.std.proofs.Common.{◌^◌, ◌+ℤ◌, ◌<◌, ◌∙◌, ap, subst, sym, FitsSigned, length, w64, to_z, arith, rules, All}
 use Rattle.std.proofs.lemmas.Int.{to_z-of_z}
 use Rattle.i_shape.proofs.Common.{w128, point_of, contour_of, IsSafe, winding}
-use Rattle.i_shape.proofs.lists.Surviving.{mapped-read}
-use Rattle.i_shape.proofs.lists.WrappedSums.{fits-twice, far-fits, far-more}
+use Rattle.i_shape.proofs.Lists.Surviving.{mapped-read}
+use Rattle.i_shape.proofs.Lists.WrappedSums.{fits-twice, far-fits, far-more}
 use Rattle.i_shape.proofs.int.winding.RefSliceIntContourShapeExtension.winding_number.Goals as goal
 
 pub winding_about-requires-clause-points_safe : goal.winding_about-requires-clause-points_safe

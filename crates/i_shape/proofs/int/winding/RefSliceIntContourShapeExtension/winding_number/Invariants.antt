@@ -1,5 +1,5 @@
 use Rattle.i_shape.proofs.Common.{point_of, contour_of, winding}
-use Rattle.i_shape.proofs.lists.WrappedSums.{IsSummedFar}
+use Rattle.i_shape.proofs.Lists.WrappedSums.{IsSummedFar}
 use Rattle.i_shape.proofs.int.winding.RefSliceIntContourShapeExtension.winding_number.Given as goal
 
 abbrev pub invariant-loop-contour : goal.invariant-loop-contour

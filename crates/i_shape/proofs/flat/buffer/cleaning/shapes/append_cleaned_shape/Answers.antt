@@ -1,7 +1,7 @@
 use Rattle.std.proofs.Common.{◌≡◌, ◌∙◌, true, false, length, refl, subst, All, is_some}
 use Rattle.std.proofs.lemmas.List.Elements.{All-head, All-tail}
 use Rattle.i_shape.proofs.Common.{contour_of, IsSafe, InOrder, part_of, slices, contours_of}
-use Rattle.i_shape.proofs.buffers.CleanedShapes.{appends-empty, appends-none, appends-whole}
+use Rattle.i_shape.proofs.Buffers.CleanedShapes.{appends-empty, appends-none, appends-whole}
 use Rattle.i_shape.proofs.flat.buffer.cleaning.shapes.append_cleaned_shape.Goals as goal
 
 pub returns-in_default-clause-ok : goal.returns-in_default-clause-ok

@@ -1,10 +1,10 @@
 use Rattle.std.proofs.Common.{ap, All}
 use Rattle.i_shape.proofs.Common.{slices, IsSafe, ListClean, named_shapes}
-use Rattle.i_shape.proofs.buffers.CleanedShapes.{shape-read, shapes-all, held-more, clean-more, held-none, clean-none, named_there}
+use Rattle.i_shape.proofs.Buffers.CleanedShapes.{shape-read, shapes-all, held-more, clean-more, held-none, clean-none, named_there}
 use Rattle.i_shape.proofs.flat.buffer.cleaning.shapes.cleaned_shapes.Goals as goal
 
 pub loop-range-init : goal.loop-range-init
-loop-range-init g c = record { held = held-none _ c.in_ok-kept.ensures.ok; clean = clean-none g.C.ContourCleaner.answers g.T.IntNumber.value _ c.in_ok-kept.ensures.ok }
+loop-range-init g c = record { held = held-none _ c.in_ok-kept.ensures.ok; clean = clean-none g.C.ContourCleaner.meaning.answers g.T.IntNumber.value _ c.in_ok-kept.ensures.ok }
 
 pub append_cleaned_shape-requires-clause-safe : goal.append_cleaned_shape-requires-clause-safe
 append_cleaned_shape-requires-clause-safe g c =
@@ -23,7 +23,7 @@ loop-range-preserved g c =
 
 pub returns-clause-cleaned : goal.returns-clause-cleaned
 returns-clause-cleaned g c =
-    shapes-all g.T.IntNumber.value c.args.points.now c.args.contour_ranges.now c.args.shape_ranges.now c.loop-range.range-index (λ w. ListClean g.C.ContourCleaner.answers w (named_shapes g.T.IntNumber.value c.loop-range.kept)) c.loop-range-test.false c.loop-range.invariant.clean
+    shapes-all g.T.IntNumber.value c.args.points.now c.args.contour_ranges.now c.args.shape_ranges.now c.loop-range.range-index (λ w. ListClean g.C.ContourCleaner.meaning.answers w (named_shapes g.T.IntNumber.value c.loop-range.kept)) c.loop-range-test.false c.loop-range.invariant.clean
 
 pub checked_named-requires : goal.checked_named-requires
 checked_named-requires g c = named_there _ c.args.contour_ranges.now c.args.shape_ranges.now c.requires.readable

@@ -1,4 +1,4 @@
-use Rattle.i_shape.proofs.buffers.Contours.{HoldsContours-appended}
+use Rattle.i_shape.proofs.Buffers.Contours.{HoldsContours-appended}
 use Rattle.i_shape.proofs.flat.buffer.contours.FlatContoursBuffer.set_with_shape.Goals as goal
 
 pub returns-clause-ok : goal.returns-clause-ok

@@ -1,4 +1,4 @@
-use Rattle.i_shape.proofs.buffers.Shapes.{HoldsShapes-contour}
+use Rattle.i_shape.proofs.Buffers.Shapes.{HoldsShapes-contour}
 use Rattle.i_shape.proofs.flat.buffer.shapes.FlatShapesBuffer.set_with_contour.Goals as goal
 
 pub returns-clause-ok : goal.returns-clause-ok

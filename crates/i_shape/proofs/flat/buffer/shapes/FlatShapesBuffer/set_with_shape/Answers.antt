@@ -1,6 +1,6 @@
 use Rattle.std.proofs.Common.{refl}
-use Rattle.i_shape.proofs.lists.EndToEnd.{as_contours}
-use Rattle.i_shape.proofs.buffers.Shapes.{HoldsShapes-one}
+use Rattle.i_shape.proofs.Lists.EndToEnd.{as_contours}
+use Rattle.i_shape.proofs.Buffers.Shapes.{HoldsShapes-one}
 use Rattle.i_shape.proofs.flat.buffer.shapes.FlatShapesBuffer.set_with_shape.Goals as goal
 
 pub returns-clause-ok : goal.returns-clause-ok

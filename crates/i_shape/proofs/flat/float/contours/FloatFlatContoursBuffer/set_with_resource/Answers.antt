@@ -1,4 +1,4 @@
-use Rattle.i_shape.proofs.buffers.AnyPoints.{LieEndToEnd-appended}
+use Rattle.i_shape.proofs.Buffers.AnyPoints.{LieEndToEnd-appended}
 use Rattle.i_shape.proofs.flat.float.contours.FloatFlatContoursBuffer.set_with_resource.Goals as goal
 
 pub returns-clause-ok : goal.returns-clause-ok

@@ -1,5 +1,5 @@
 use Rattle.std.proofs.Common.{rules, arith, ◌≡◌, ◌∙◌, sym, [], ◌∷◌, length}
-use Rattle.i_shape.proofs.buffers.AnyPoints.{LieEndToEnd-appended, FormOneShape-from_lists, one_shape_range}
+use Rattle.i_shape.proofs.Buffers.AnyPoints.{LieEndToEnd-appended, FormOneShape-from_lists, one_shape_range}
 use Rattle.i_shape.proofs.flat.float.shapes.FloatFlatShapesBuffer.set_with_resource.Goals as goal
 
 pub returns-clause-ok : goal.returns-clause-ok
