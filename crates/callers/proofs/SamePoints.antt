@@ -1,4 +1,4 @@
--- What comparing lists of the program's points says of the contours that they represent.
+-- What comparing lists of the program's points returns.
 use Rattle.std.proofs.Common.{◌≡◌, ◌≢◌, ◌↔◌, ◌<◌, ℕ, Bool, true, false, IsTrue, MatchBool, Decides, List, [], ◌∷◌}
 use Rattle.std.proofs.Common.{Contains, HoldsAt, length, get_or, map, refl, sym, ◌∙◌, arith}
 use Rattle.std.specs.List.{AllWithin}
@@ -8,7 +8,8 @@ use Rattle.std.proofs.lemmas.Iterator.Search.{true_from_Any}
 use Rattle.std.proofs.lemmas.List.{get_or-map, length-map}
 use Rattle.std.proofs.lemmas.List.Elements.{Contains-get_or}
 
--- where a test of two members decides whether f gives the same for them, it decides so for two lists
+-- if E decides whether two members have equal images under f, comparing lists by E decides whether the mapped lists are
+-- equal
 pub lists_decided : {X Y : Type 0} (E : X → X → Bool) (f : X → Y) → ((a b : X) → Decides (E a b) (f a ≡ f b))
     → (xs ys : List X) → Decides (pointwise E xs ys) (map f xs ≡ map f ys)
 lists_decided E f decides [] [] = (λ _. refl, λ _. refl)

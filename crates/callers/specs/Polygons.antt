@@ -20,7 +20,7 @@ SamePolygon s t = SameShape (Joined IsZeroTurn) s t
 abbrev pub IsPolygonFound : List (List (List Point)) → List (List Point) → Type 0
 IsPolygonFound store s = (form : List (List Point)) × Contains store form × SamePolygon form s
 
--- the new store finds what the old one found and the polygons that are the same as s, and nothing else
+-- the new store finds what the old one found, the polygons that are the same as s, and nothing else
 abbrev pub AlsoFindsPolygon : List (List (List Point)) → List (List Point) → List (List (List Point)) → Type 0
 AlsoFindsPolygon old s new = (t : List (List Point)) → IsPolygonFound new t ↔ (IsPolygonFound old t ⊎ SamePolygon s t)
 

@@ -15,11 +15,11 @@ AreForms forms = All (λ form. (c : List Point) × IsCanonical c form) forms
 abbrev pub IsFound : List (List Point) → List Point → Type 0
 IsFound store c = (form : List Point) × Contains store form × Joined IsZeroTurn form c
 
--- the new store finds what the old one found and what is joined to c, and nothing else
+-- the new store finds what the old one found, the contours joined to c, and nothing else
 abbrev pub AlsoFinds : List (List Point) → List Point → List (List Point) → Type 0
 AlsoFinds old c new = (d : List Point) → IsFound new d ↔ (IsFound old d ⊎ Joined IsZeroTurn c d)
 
--- no contour of the old store was joined to c, and the canonical form of c is the last one now
+-- no contour of the old store was joined to c, and the canonical form of c is appended
 pub record IsAdded (old : List (List Point)) (c : List Point) (new : List (List Point)) : Type 0 where
   pub missing : IsFound old c → ⊥
   pub form : List Point

@@ -2,9 +2,9 @@
 
 ghost use Rattle.std.specs.Prelude.{◌≡◌, ◌↔◌, IfOk, IfSome, None};
 ghost use Rattle.std.specs.Int.{int_wrap, w128};
-ghost use Rattle.i_shape_core.specs.IntPoint.{contour_of};
-ghost use Rattle.i_shape_core.specs.Edges.{shoelace};
-ghost use Rattle.i_shape_core.specs.Cleaners.{EachEndCollapses};
+ghost use Rattle.i_shape.specs.IntPoint.{contour_of};
+ghost use Rattle.i_shape.specs.Edges.{shoelace};
+ghost use Rattle.i_shape.specs.Cleaners.{EachEndCollapses};
 
 use crate::refusal::Refusal;
 use i_shape::int::IntPoint;
@@ -13,7 +13,7 @@ use i_shape::int::safe_range::IntSafeRange;
 use i_shape::int::simple::SimpleContour;
 use std::alloc::Global;
 
-/// Returns twice the signed area of a contour, computed from its copy without zero turns, or `None` where the contour
+/// Returns twice the signed area of a contour, computed from its copy without zero turns, or `None` if the contour
 /// collapses.
 pub fn cleaned_area(alloc: Global, contour: &[IntPoint<i64>]) -> Result<Option<i128>, Refusal>
     ensures none { IfOk result (λ r. (r ≡ None)

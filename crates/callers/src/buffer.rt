@@ -1,8 +1,8 @@
 //! Flat buffers that are tested and then cleaned.
 
 ghost use Rattle.std.specs.Prelude.{◌≡◌, OnOk, OnErr, IfOk, IsErrOf, Ok, false, ◌↔◌};
-ghost use Rattle.i_shape_core.specs.Contour.{IsSimple};
-ghost use Rattle.i_shape_core.specs.IntPoint.{IsSafeContour};
+ghost use Rattle.i_shape.specs.Contour.{IsSimple};
+ghost use Rattle.i_shape.specs.IntPoint.{IsSafeContour};
 ghost use Rattle.i_shape.specs.Paths.{concatenated};
 ghost use Rattle.i_shape.specs.ShapeLists.{shapes_of, IsSafeList};
 ghost use Rattle.i_shape.specs.Buffers.{Compact, contours_in, CanReadContours};

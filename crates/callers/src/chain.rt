@@ -4,11 +4,11 @@
 ghost use Rattle.std.specs.Prelude.{◌≡◌, ◌<◌, ◌↔◌, length, IfOk, OnOk, OnErr, IsErrOf, Ok, false};
 ghost use Rattle.std.specs.List.{All};
 ghost use Rattle.std.specs.Int.{int_wrap};
-ghost use Rattle.i_shape_core.specs.Point.{Point};
-ghost use Rattle.i_shape_core.specs.IntPoint.{contour_of, IsSafe};
-ghost use Rattle.i_shape_core.specs.Contour.{IsSimple};
-ghost use Rattle.i_shape_core.specs.Edges.{shoelace, Inside};
-ghost use Rattle.i_shape_core.specs.Cleaners.{SimpleAnswer};
+ghost use Rattle.i_shape.specs.Point.{Point};
+ghost use Rattle.i_shape.specs.IntPoint.{contour_of, IsSafe};
+ghost use Rattle.i_shape.specs.Contour.{IsSimple};
+ghost use Rattle.i_shape.specs.Edges.{shoelace, Inside};
+ghost use Rattle.i_shape.specs.Cleaners.{SimpleAnswer};
 ghost use Rattle.i_shape.specs.ShapeLists.{shape_of, shapes_of, IsSafeShape, IsSafeList};
 ghost use Rattle.i_shape.specs.ShapeAnswers.{ListKept, EachShape, shape_shoelace, shapes_shoelace};
 ghost use Rattle.i_shape.specs.InPlace.{Leaves};
@@ -49,8 +49,7 @@ pub fn clean_contour<I: IntNumber>(contour: &mut IntContour<I>) -> Result<bool, 
     Ok(simplified)
 }
 
-/// Removes zero turns from each shape in place, and then spikes. The double area stays the same where no shape is
-/// removed.
+/// Removes zero turns from each shape in place, and then spikes. The double area stays the same if no shape is removed.
 #[tactic(auto, using(i_shape::proofs::CallerLemmas::list_cleaned, i_shape::proofs::CallerLemmas::list_never_refused, i_shape::proofs::CallerLemmas::list_cleaned_area))]
 pub fn clean_list<I: IntNumber>(shapes: &mut IntShapes<I>) -> Result<bool, Refusal>
     ensures range { IsErrOf result Refusal.OutOfRange

@@ -2,9 +2,9 @@
 
 ghost use Rattle.std.specs.Prelude.{◌≡◌, None, IfOk, IfSome};
 ghost use Rattle.std.specs.List.{All};
-ghost use Rattle.i_shape_core.specs.IntPoint.{contour_of, answered, IsSafe};
-ghost use Rattle.i_shape_core.specs.Cleaners.{SimpleAnswer};
-ghost use Rattle.i_shape_core.specs.Edges.{shoelace};
+ghost use Rattle.i_shape.specs.IntPoint.{contour_of, answered, IsSafe};
+ghost use Rattle.i_shape.specs.Cleaners.{SimpleAnswer};
+ghost use Rattle.i_shape.specs.Edges.{shoelace};
 
 use i_shape::int::IntPoint;
 use i_shape::int::safe_range::IntSafeRange;
@@ -13,7 +13,7 @@ use i_shape::int::simple::SimpleContour;
 use i_shape::{IntNumber, ShapeError};
 use std::alloc::Global;
 
-/// Returns a contour without zero turns, or `None` where it collapses or a point isn't safe.
+/// Returns a contour without zero turns, or `None` if it collapses or a point isn't safe.
 pub fn cleaned<I: IntNumber>(
     alloc: Global,
     contour: &[IntPoint<I>],

@@ -2,14 +2,15 @@
 
 ghost use Rattle.std.specs.Prelude.{◌≡◌, ◌↔◌, ◌⊎◌, ◌<◌, length, take, IsTrue, IfOk, IsErrOf};
 ghost use Rattle.std.specs.List.{All};
-ghost use Rattle.i_shape_core.specs.IntPoint.{point_of, IsSafe};
-ghost use Rattle.i_shape_core.specs.Reading.{read};
-ghost use Rattle.i_shape_core.specs.Edges.{shoelace};
-ghost use Rattle.i_shape_core.specs.Cleaners.{SimpleAnswer};
-ghost use Rattle.i_shape_core.specs.Written.{slot};
+ghost use Rattle.i_shape.specs.IntPoint.{point_of, IsSafe};
+ghost use Rattle.i_shape.specs.Reading.{read};
+ghost use Rattle.i_shape.specs.Edges.{shoelace};
+ghost use Rattle.i_shape.specs.Cleaners.{SimpleAnswer};
+ghost use Rattle.i_shape.specs.Written.{slot};
 
 use crate::refusal::Refusal;
 use i_shape::int::ContourPoint;
+use i_shape::int::cleaner::ContourCleaner;
 use i_shape::int::despike::ContourDeSpiker;
 use i_shape::int::safe_range::IntSafeRange;
 use i_shape::int::simple::ContourSimplifier;
@@ -38,7 +39,7 @@ pub fn are_safe<P: ContourPoint>(points: &[P]) -> bool
 }
 
 /// Removes zero turns from a contour into `between`, and then spikes into `out`, of which none remains by then. Returns
-/// how many points are left, 0 where the contour collapses.
+/// how many points are left, 0 if the contour collapses.
 pub fn clean_into<P: ContourPoint>(
     simplifier: &mut ContourSimplifier,
     despiker: &mut ContourDeSpiker,
@@ -63,6 +64,6 @@ pub fn clean_into<P: ContourPoint>(
     if between.len() < contour.len() || out.len() < contour.len() {
         return Err(Refusal::NoRoom);
     }
-    let count = simplifier.simplify_into(contour, between)?;
-    Ok(despiker.despike_into(&between[..count], out)?)
+    let count = simplifier.try_clean_into(contour, between)?;
+    Ok(despiker.try_clean_into(&between[..count], out)?)
 }

@@ -6,8 +6,8 @@
 
 ghost use Rattle.std.specs.Prelude.{◌≡◌, ◌≤◌, vec_len};
 ghost use Rattle.std.specs.List.{All, sum_by};
-ghost use Rattle.i_shape_core.specs.IntPoint.{point_of};
-ghost use Rattle.i_shape_core.specs.Point.{origin};
+ghost use Rattle.i_shape.specs.IntPoint.{point_of};
+ghost use Rattle.i_shape.specs.Point.{origin};
 ghost use Rattle.i_shape.specs.ShapeAnswers.{HasPoints};
 ghost use Rattle.i_shape.specs.ShapeLists.{shape_of, shapes_of};
 
@@ -65,7 +65,7 @@ pub fn foot<I: i_shape_core::IntNumber>(point: IntPoint<I>) -> IntPoint<I> {
 }
 
 /// Returns the cross and dot product of the vectors from `a` to `b` and to `c`, and whether the three points turn
-/// clockwise. `None` where one isn't safe.
+/// clockwise. `None` if one isn't safe.
 pub fn products<I: IntNumber>(
     a: IntPoint<I>,
     b: IntPoint<I>,
@@ -82,7 +82,7 @@ pub fn products<I: IntNumber>(
     ))
 }
 
-/// Returns twice the signed area of a contour, its signed area, and whether it runs clockwise. `None` where it has no
+/// Returns twice the signed area of a contour, its signed area, and whether it runs clockwise. `None` if it has no
 /// point.
 pub fn measures<I: IntNumber>(contour: &[IntPoint<I>]) -> Option<(I::Wide, I::Wide, bool)> {
     if contour.is_empty() {
@@ -109,7 +109,7 @@ pub fn areas<I: IntNumber>(
     )
 }
 
-/// Returns whether a contour contains a point. `None` where a point isn't safe.
+/// Returns whether a contour contains a point. `None` if a point isn't safe.
 pub fn contains<I: IntNumber>(contour: &[IntPoint<I>], point: IntPoint<I>) -> Option<bool> {
     if !contour.is_in_safe_range() || !point.is_in_safe_range() {
         return None;
@@ -117,7 +117,7 @@ pub fn contains<I: IntNumber>(contour: &[IntPoint<I>], point: IntPoint<I>) -> Op
     Some(contour.contains_point(point))
 }
 
-/// Returns the turn of a contour's first three points, and the visits so far. `None` where it has fewer points, or one
+/// Returns the turn of a contour's first three points, and the visits so far. `None` if it has fewer points, or one
 /// isn't safe.
 pub fn first_turn<I: IntNumber>(contour: &[IntPoint<I>]) -> Option<(Turn, u128)> {
     if !contour.is_in_safe_range() {
@@ -132,7 +132,7 @@ pub fn first_turn<I: IntNumber>(contour: &[IntPoint<I>]) -> Option<(Turn, u128)>
     Some((turn, probe.visits()))
 }
 
-/// Returns whether cleaning removes the vertex: it goes straight on, turns back or stands still.
+/// Returns whether cleaning removes the vertex: the path goes straight on there, or back.
 pub fn is_zero_turn(turn: Turn) -> bool {
     match turn {
         Turn::Turning => false,
@@ -167,8 +167,7 @@ pub fn are_plain<I: IntNumber>(shape: &IntShape<I>, shapes: &IntShapes<I>) -> bo
         && shapes.has_no_spikes()
 }
 
-/// Returns a contour without zero turns, its form, and the contour without spikes. There is none where a point isn't
-/// safe.
+/// Returns a contour without zero turns, its form, and the contour without spikes. There is none if a point isn't safe.
 pub fn cleaned<I: IntNumber>(
     alloc: Global,
     contour: &IntContour<I>,
@@ -183,7 +182,7 @@ pub fn cleaned<I: IntNumber>(
     Ok([simple, form, contour.despiked_contour(alloc)?])
 }
 
-/// Returns a shape without zero turns, and without spikes. There is none where a point isn't safe.
+/// Returns a shape without zero turns, and without spikes. There is none if a point isn't safe.
 pub fn cleaned_shape<I: IntNumber>(
     alloc: Global,
     shape: &IntShape<I>,
@@ -195,8 +194,8 @@ pub fn cleaned_shape<I: IntNumber>(
     Ok([simple, shape.despiked_shape(alloc)?])
 }
 
-/// Removes spikes from a shape in place, or all zero turns. Returns whether a contour had to be cleaned, or `None`
-/// where a point isn't safe.
+/// Removes spikes from a shape in place, or all zero turns. Returns whether a contour had to be cleaned, or `None` if a
+/// point isn't safe.
 pub fn clean_shape<I: IntNumber>(
     shape: &mut IntShape<I>,
     only_spikes: bool,
@@ -212,7 +211,7 @@ pub fn clean_shape<I: IntNumber>(
     Ok(Some(was_unclean))
 }
 
-/// Returns a list without zero turns, and without spikes. Both are empty where a point isn't safe.
+/// Returns a list without zero turns, and without spikes. Both are empty if a point isn't safe.
 pub fn cleaned_list<I: IntNumber>(
     alloc: Global,
     shapes: &IntShapes<I>,
@@ -224,7 +223,7 @@ pub fn cleaned_list<I: IntNumber>(
     Ok([simple, shapes.despiked_shapes(alloc)?])
 }
 
-/// Returns how many vertices each cleaner visits, or `None` where a point isn't safe.
+/// Returns how many vertices each cleaner visits, or `None` if a point isn't safe.
 pub fn visits<I: IntNumber>(
     alloc: Global,
     contour: &IntContour<I>,
@@ -308,7 +307,7 @@ pub fn filled<I: IntNumber>(
     Ok((contours.clone()?, buffer.clone()?))
 }
 
-/// Returns what is read back of two buffers, or `None` where one can't be read.
+/// Returns what is read back of two buffers, or `None` if one can't be read.
 pub fn read<I: IntNumber>(
     contours: &FlatContoursBuffer<I>,
     shapes: &FlatShapesBuffer<I>,
@@ -319,7 +318,7 @@ pub fn read<I: IntNumber>(
     Ok(Some((contours.to_contours()?, shapes.to_shapes()?)))
 }
 
-/// Returns the lengths of the lists of two buffers, or `None` where neither has a point.
+/// Returns the lengths of the lists of two buffers, or `None` if neither has a point.
 pub fn lengths<I: IntNumber>(
     contours: &FlatContoursBuffer<I>,
     shapes: &FlatShapesBuffer<I>,
@@ -380,7 +379,7 @@ pub fn gathered<P: ShapePoint + Drop>(
     Ok((contours.clone()?, shapes.clone()?))
 }
 
-/// Returns what is read back of two buffers over points of any type, or `None` where one can't be read.
+/// Returns what is read back of two buffers over points of any type, or `None` if one can't be read.
 pub fn read_of_any_kind<P: Copy>(
     contours: &FloatFlatContoursBuffer<P>,
     shapes: &FloatFlatShapesBuffer<P>,
@@ -391,8 +390,8 @@ pub fn read_of_any_kind<P: Copy>(
     Ok(Some((contours.to_contours()?, shapes.to_shapes()?)))
 }
 
-/// Returns the contours of a buffer of shapes over points of any type. There are none where it has no point, or can't
-/// be read.
+/// Returns the contours of a buffer of shapes over points of any type. There are none if it has no point, or can't be
+/// read.
 pub fn contours_of_any_kind<P: Copy>(
     alloc: Global,
     shapes: &FloatFlatShapesBuffer<P>,
@@ -403,7 +402,7 @@ pub fn contours_of_any_kind<P: Copy>(
     shapes.to_contours()
 }
 
-/// Returns the lengths of the lists of two buffers over points of any type, or `None` where the first has no point.
+/// Returns the lengths of the lists of two buffers over points of any type, or `None` if the first has no point.
 pub fn lengths_of_any_kind<P: Copy>(
     contours: &FloatFlatContoursBuffer<P>,
     shapes: &FloatFlatShapesBuffer<P>,
@@ -435,7 +434,7 @@ pub fn lent<'a, I: IntNumber>(
     [path.next(), shape.next(), shapes.next(), slices.next()]
 }
 
-/// Returns how many paths two buffers have, by the name of their iterator, or `None` where one can't be read.
+/// Returns how many paths two buffers have, by the name of their iterator, or `None` if one can't be read.
 pub fn lent_by_buffers<I: IntNumber>(
     contours: &FlatContoursBuffer<I>,
     shapes: &FlatShapesBuffer<I>,
@@ -498,7 +497,7 @@ pub fn are_of_shapes<P: ShapePoint>(
     ]
 }
 
-/// Returns the double area of the points of a nonempty iterator, by either name, and the area.
+/// Returns the double area of the contour of three points, by each of its two names, and its area.
 pub fn of_three<I: IntNumber>(points: [IntPoint<I>; 3]) -> [I::Wide; 3] {
     [
         points.iter().copied().unsafe_area(),

@@ -45,7 +45,7 @@ impl<I: IntNumber> PolygonStore<I> {
     }
 
     /// Returns whether the store has the same polygon: its contours may start at other points, have other zero turns,
-    /// and its holes may come in another order. Returns false where its outer contour collapses. The only error is
+    /// and its holes may come in another order. Returns false if its outer contour collapses. The only error is
     /// `OutOfMemory`.
     pub fn contains(&self, polygon: &[IntContour<I>]) -> Result<bool, ShapeError>
         requires { IsSafeShape I.width (shape_of I.value polygon.now) }

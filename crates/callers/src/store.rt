@@ -1,5 +1,5 @@
-//! A store of contours. Joined contours are stored once. Two contours are joined where rotations, removals and
-//! insertions of zero turns lead from one to the other.
+//! A store of contours. Joined contours are stored once. Two contours are joined if rotations, removals and insertions
+//! of zero turns lead from one to the other.
 
 ghost use Rattle.std.specs.Prelude.{◌≡◌, ◌≢◌, ◌↔◌, [], IsTrue, IfOk, OnErr, IsOkUnless};
 ghost use Rattle.std.specs.List.{All, Contains};
@@ -55,7 +55,7 @@ impl<I: IntNumber> CanonicalStore<I> {
         }
     }
 
-    /// Returns whether a contour of the store is joined to this one. Returns false where this one collapses. The only
+    /// Returns whether a contour of the store is joined to this one. Returns false if this one collapses. The only
     /// error is `OutOfMemory`.
     pub fn contains(&self, contour: &[IntPoint<I>]) -> Result<bool, ShapeError>
         requires { All (IsSafe I.width) (contour_of I.value contour.now) }

@@ -150,7 +150,7 @@ fn the_first_contour_is_lent(rt: HostRuntime) -> Result<(), Fail> {
     Ok(())
 }
 
-/// Points, ranges, whether the first can be read, and the contours where all can.
+/// Points, ranges, whether the first can be read, and the contours if all can.
 const READABLE: [(&str, &str, bool, Option<&str>); 4] = [
     ("1 1 2 2 3 3", "2..1", false, None),
     (
@@ -163,8 +163,7 @@ const READABLE: [(&str, &str, bool, Option<&str>); 4] = [
     ("1 2 3 4", "0..2 1..2 2..2", true, Some("1 2 3 4;3 4;;")),
 ];
 
-/// Points, ranges of contours and of shapes, and the shapes where all ranges can be read, among them those of shapes
-/// that are reversed.
+/// Points, ranges of contours and of shapes, and the shapes if all ranges can be read, including reversed shape ranges.
 const READABLE_SHAPES: [(&str, [&str; 2], Option<&str>); 5] = [
     ("1 1", ["0..1", "2..1"], Some("/")),
     ("", ["", "5..5"], Some("/")),
@@ -238,7 +237,7 @@ fn drawn_shapes_keep_their_number_of_contours(rt: HostRuntime) -> Result<(), Fai
     Ok(())
 }
 
-/// Cleans a buffer. The test stops where a range can't be read, or a point isn't safe.
+/// Cleans a buffer. The test stops if a range can't be read, or a point isn't safe.
 fn simplify(
     row: &Row<'_, impl Abort>,
     buffer: &mut FlatContoursBuffer<i32>,

@@ -1,4 +1,4 @@
-//! What no clause of the callers says: that calls succeed where memory is there.
+//! What no clause of the callers says: that calls succeed if there is memory.
 
 use crate::resource::WholePoint;
 use crate::row::Row;

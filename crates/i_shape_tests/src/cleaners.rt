@@ -122,7 +122,7 @@ fn cleans_rows<C: ContourCleaner>(
 }
 
 /// A contour, and what is left of it by the simplifier, the despiker, the remover of spikes, the canonicalizer and the
-/// one for either direction: after an equals sign where it is clean, and then itself where nothing follows.
+/// one for either direction: after an equals sign if it is clean, and then itself if nothing follows.
 const ROWS: &str = "\
 4 4 0 4 0 0 4 0|=|=|=|=0 0 4 0 4 4 0 4|=0 0 0 4 4 4 4 0
 0 0 2 0 4 0 4 4 4 4|0 0 4 0 4 4|0 0 2 0 4 0 4 4|=|0 0 4 0 4 4|0 0 4 0 4 4

@@ -7,7 +7,7 @@ use i_shape_core::canonical::least_start_counted;
 use std::cmp::Ordering;
 use std::test::Fail;
 
-/// How the rotations of a list from two places are ordered, and how many pairs of points decide it.
+/// The order of the rotations of a list from two places, and the number of pairs of points that decide it.
 fn compared(list: &[Pair], one: usize, other: usize) -> (usize, Ordering) {
     let count = list.len();
     for step in 0..count {
@@ -21,8 +21,8 @@ fn compared(list: &[Pair], one: usize, other: usize) -> (usize, Ordering) {
     (count, Ordering::Equal)
 }
 
-/// Where the least rotation starts, and the pairs of points compared: each start in turn against the best one so far,
-/// where the one that loses takes along the starts up to where it lost.
+/// Where the least rotation starts, and the number of pairs compared: each start in turn is compared with the best so
+/// far, and the one that loses rules out the starts up to where it lost.
 fn plain_search(list: &[Pair]) -> (usize, u128) {
     let count = list.len();
     let mut best = 0;

@@ -1,4 +1,4 @@
-//! Where edges of a contour, or of several rings, touch, cross or overlap.
+//! Contacts of edges of a contour, or of several rings: they touch, cross or overlap.
 
 use crate::given::{contour, reversed, rotated};
 use crate::row::Row;

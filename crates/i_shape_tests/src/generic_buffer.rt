@@ -186,7 +186,7 @@ fn contours_are_added_at_the_end(rt: HostRuntime) -> Result<(), Fail> {
     has_shapes(&row, &shapes, [joined, "0..3 3..5", "0..1 1..2", listed])
 }
 
-/// Ranges of two points, whether each can be read, and the paths that are lent: those of the others are passed over.
+/// Ranges of two points, whether each can be read, and the paths that are lent: ranges that can't be read are skipped.
 const RANGES: [(&str, bool, &str); 3] = [
     ("0..1 5..6 2..1 0..2", false, "1 2;1 2 3 4;"),
     (
@@ -215,7 +215,7 @@ fn bad_ranges_are_passed_over(rt: HostRuntime) -> Result<(), Fail> {
     Ok(())
 }
 
-/// A hint or a range that is too far is refused, and leaves the buffer empty.
+/// A hint or a range that is too far runs out of memory, and leaves the buffer empty.
 #[test]
 fn size_hints_need_not_be_exact(rt: HostRuntime) -> Result<(), Fail> {
     let row = Row::new(&rt, rt.alloc(), "size hints");

@@ -1,4 +1,4 @@
-//! Contours that tests are given.
+//! Contours for tests.
 
 ghost use Rattle.std.specs.Prelude.{◌≤◌, length, IfOk};
 ghost use Rattle.std.specs.List.{All};
@@ -12,7 +12,7 @@ use i_shape::int::shape::IntContour;
 use std::alloc::{AllocError, Global};
 use std::process::Abort;
 
-/// The contour of these points. The test stops where one isn't safe.
+/// The contour of these points. The test stops if one isn't safe.
 pub fn contour<I: IntNumber>(
     row: &Row<'_, impl Abort>,
     points: &[[I; 2]],

@@ -42,7 +42,7 @@ fn is_back(a: Pair, b: Pair, c: Pair) -> bool {
             <= 0
 }
 
-/// Whether the vertex at a place is a zero turn, and whether it turns back or stands still.
+/// Whether the vertex at a place is a zero turn, and whether it is a back vertex.
 fn turn_at(list: &[Pair], place: usize) -> (bool, bool)
     requires { place < length list.now }
 {
@@ -53,7 +53,7 @@ fn turn_at(list: &[Pair], place: usize) -> (bool, bool)
     (is_zero_turn(a, list[place], c), is_back(a, list[place], c))
 }
 
-/// Whether some vertex of the list turns back or stands still, the closing edge included.
+/// Whether some vertex of the list is a back vertex, the closing edge included.
 pub fn has_back_vertex(list: &[Pair]) -> bool {
     for place in 0..list.len() {
         if turn_at(list, place).1 {
@@ -85,7 +85,7 @@ fn zero_turn(list: &[Pair], order: Order) -> Option<usize>
     None
 }
 
-/// What is left where zero turns are deleted one by one, in this order, until none is left: nothing where it collapses.
+/// What is left once zero turns are deleted one by one, in this order, until none is left: nothing if it collapses.
 pub fn deleted(alloc: Global, list: &[Pair], order: Order) -> Result<Vec<Pair>, AllocError> {
     let mut left = Vec::from_slice(alloc, list)?;
     for _ in 0..list.len() {
@@ -109,8 +109,8 @@ pub fn is_rotation(one: &[Pair], other: &[Pair]) -> bool {
     one.is_empty()
 }
 
-/// The walk that keeps points on a stack, and then takes zero turns from both of its ends: what it leaves, nothing
-/// where it collapses, and its visits.
+/// The walk that keeps points on a stack, and then takes zero turns from both of its ends: what it leaves, nothing if
+/// it collapses, and its visits.
 pub fn stack_walk(alloc: Global, list: &[Pair]) -> Result<(Vec<Pair>, u128), AllocError> {
     let mut visits: u128 = 0;
     let mut stack: Vec<Pair> = Vec::new(alloc);
@@ -151,7 +151,7 @@ pub fn stack_walk(alloc: Global, list: &[Pair]) -> Result<(Vec<Pair>, u128), All
 }
 
 /// The walk round the ring that removes back vertices, with the number of those, from its place on, that are untested:
-/// what it leaves, nothing where it collapses, and its visits.
+/// what it leaves, nothing if it collapses, and its visits.
 pub fn ring_walk(alloc: Global, list: &[Pair]) -> Result<(Vec<Pair>, u128), AllocError> {
     let mut ring = Vec::from_slice(alloc, list)?;
     let mut place = 0;

@@ -377,7 +377,7 @@ fn other_walks_give_no_hint(rt: HostRuntime) -> Result<(), Fail> {
     Ok(())
 }
 
-/// Both buffers are safe where their ranges pass over the far point.
+/// Both buffers are safe if their ranges skip the far point.
 #[test]
 fn points_that_no_range_names_may_be_far(rt: HostRuntime) -> Result<(), Fail> {
     for (name, is_safe) in [("0..1 0..0", true), ("0..1 0..0 1..2", false)] {

@@ -17,13 +17,13 @@ impl<'a, A: Abort> Row<'a, A> {
         Row { rt, alloc, name }
     }
 
-    /// What is claimed of this row is so.
+    /// The claim about this row holds.
     pub fn holds(&self, fact: bool, what: &str) {
         let name = self.name;
         assert!(self.rt; fact, "{name}: {what}");
     }
 
-    /// What a call returns for this row is what is wanted.
+    /// What a call returns for this row equals `wanted`.
     pub fn equal<T: PartialEq + Debug + Drop>(&self, kept: T, wanted: T, what: &str) {
         let name = self.name;
         assert_eq!(self.rt; kept, wanted, "{name}: {what}");

@@ -9,7 +9,7 @@ use i_shape_tool::{clean_through_buffer, despike_through_buffer};
 use std::process::Abort;
 use std::test::Fail;
 
-/// Without zero turns `left` is left of the list, and the call in place returns whether that changed it.
+/// Removing zero turns leaves `left` of the list; in place the call returns whether it changed the list.
 fn list_is_simplified(
     row: &Row<'_, impl Abort>,
     given: &str,
@@ -44,8 +44,7 @@ fn list_is_despiked(
     Ok(())
 }
 
-/// The answer is the shape of the list, or none where the list has none, and what is left in place is that shape or
-/// empty.
+/// The answer is the shape of the list, or none if the list has none, and what is left in place is that shape or empty.
 fn is_of(answer: Option<IntShape<i32>>, left: &IntShape<i32>, list: &IntShapes<i32>) -> bool {
     match (answer, list.first()) {
         (Some(shape), Some(wanted)) => shape == *wanted && left == wanted,
@@ -53,7 +52,7 @@ fn is_of(answer: Option<IntShape<i32>>, left: &IntShape<i32>, list: &IntShapes<i
     }
 }
 
-/// The shape is cleaned as the list of it, and is left empty in place where the list is.
+/// The shape is cleaned as the list of it, and is left empty in place if the list is.
 fn shape_is_cleaned(
     row: &Row<'_, impl Abort>,
     given: &str,
@@ -75,7 +74,7 @@ fn shape_is_cleaned(
     Ok(())
 }
 
-/// All calls clean the list so, and those of a shape, where it has one.
+/// All calls clean the list so, and those of a shape, if it has one.
 fn is_cleaned(row: &Row<'_, impl Abort>, [given, simple, blunt]: [&str; 3]) -> Result<(), Fail> {
     let (simple, blunt) = (texts::shapes(row, simple)?, texts::shapes(row, blunt)?);
     list_is_simplified(row, given, &simple)?;

@@ -24,8 +24,8 @@ fn list_of(alloc: Global, count: usize, code: usize) -> Result<Vec<Pair>, AllocE
     Ok(list)
 }
 
-/// `simplify_counted` leaves what the plain walk over a stack leaves, with its visits, and both orders of deletion end
-/// in rotations of that, or collapse where it is `None`. That ring is what is left.
+/// `simplify_counted` leaves what the plain walk over a stack leaves, with its visits. Both orders of deletion end in
+/// rotations of that ring, or collapse if it is `None`.
 fn simplifies_as_the_stack_walk(
     row: &Row<'_, impl Abort>,
     simplifier: &mut ContourSimplifier,
@@ -44,8 +44,8 @@ fn simplifies_as_the_stack_walk(
     Ok(kept)
 }
 
-/// `despiked_counted` is `None` exactly where no ring is left, its `Some` is what the plain walk round the ring leaves
-/// and is simplified to the same ring, and its visits are those of the plain walk.
+/// `despiked_counted` is `None` exactly if no ring is left, its `Some` is what the plain walk round the ring leaves and
+/// is simplified to the same ring, and its visits are those of the plain walk.
 fn despikes_as_the_ring_walk(
     row: &Row<'_, impl Abort>,
     simplifier: &mut ContourSimplifier,
@@ -69,8 +69,8 @@ fn despikes_as_the_ring_walk(
     Ok(())
 }
 
-/// Both counted cleaners leave of the lists of so many points that have these codes, each times the factor, what the
-/// plain walks leave, by as many visits.
+/// Both counted cleaners leave what the plain walks leave, by as many visits, of the lists of so many points that have
+/// these codes, each times the factor.
 fn are_cleaned_as_by_plain_loops(
     row: &Row<'_, impl Abort>,
     count: usize,
@@ -96,7 +96,7 @@ fn every_small_list_is_cleaned_as_by_plain_loops(rt: HostRuntime) -> Result<(), 
     Ok(())
 }
 
-/// Of eleven lists of six points one is cleaned, and each where the variable LONG_TESTS is there.
+/// One of eleven lists of six points is cleaned, or each if the variable LONG_TESTS is set.
 #[test]
 fn lists_of_six_points_are_cleaned_as_by_plain_loops(rt: HostRuntime) -> Result<(), Fail> {
     let row = Row::new(&rt, rt.alloc(), "six points");

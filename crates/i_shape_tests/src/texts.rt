@@ -1,5 +1,5 @@
-//! What tests are given, read from texts: points by their coordinates, x and y in turn, each contour of a shape ended
-//! by a semicolon, each shape of a list by a slash, and ranges as `0..3`.
+//! Test data read from texts: points by their coordinates, x and y in turn, each contour of a shape ended by a
+//! semicolon, each shape of a list by a slash, and ranges as `0..3`.
 
 ghost use Rattle.std.specs.Prelude.{IfOk};
 ghost use Rattle.std.specs.List.{All};
@@ -30,7 +30,7 @@ pub fn points(alloc: Global, text: &str) -> Result<Vec<[i32; 2]>, Fail> {
     Ok(points)
 }
 
-/// The contour of these points. The test stops where one isn't safe.
+/// The contour of these points. The test stops if one isn't safe.
 pub fn contour(row: &Row<'_, impl Abort>, text: &str) -> Result<IntContour<i32>, Fail>
     ensures { IfOk result (λ c. All (IsSafe w32) (contour_of (λ z. z) c.items)) }
 {
@@ -38,7 +38,7 @@ pub fn contour(row: &Row<'_, impl Abort>, text: &str) -> Result<IntContour<i32>,
     Ok(given::contour(row, points.as_slice())?)
 }
 
-/// The shape of these contours. The test stops where a point isn't safe.
+/// The shape of these contours. The test stops if a point isn't safe.
 pub fn shape(row: &Row<'_, impl Abort>, text: &str) -> Result<IntShape<i32>, Fail>
     ensures { IfOk result (λ s. IsSafeShape w32 (shape_of (λ z. z) s.items)) }
 {
@@ -50,7 +50,7 @@ pub fn shape(row: &Row<'_, impl Abort>, text: &str) -> Result<IntShape<i32>, Fai
     Ok(shape)
 }
 
-/// The list of these shapes. The test stops where a point isn't safe.
+/// The list of these shapes. The test stops if a point isn't safe.
 pub fn shapes(row: &Row<'_, impl Abort>, text: &str) -> Result<IntShapes<i32>, Fail>
     ensures { IfOk result (λ s. IsSafeList w32 (shapes_of (λ z. z) s.items)) }
 {
@@ -72,7 +72,7 @@ pub fn ranges(alloc: Global, text: &str) -> Result<Vec<Range<usize>>, Fail> {
     Ok(ranges)
 }
 
-/// A contour is left as the text has it, where an empty text means no contour.
+/// A contour is left as the text has it; an empty text means no contour.
 pub fn leaves(
     row: &Row<'_, impl Abort>,
     left: Option<IntContour<i32>>,

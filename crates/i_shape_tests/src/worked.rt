@@ -16,7 +16,7 @@ use std::test::Fail;
 
 /// The columns: a name; the points; twice their area, which is also that of each contour that is left; the contour
 /// without zero turns, and the visits of the simplifier; the contour that the despiker leaves, and its visits; whether
-/// there are spikes; the canonical form. Where the contour collapses, the columns of contours that are left are empty.
+/// there are spikes; the canonical form. If the contour collapses, the columns of contours that are left are empty.
 const ROWS: &str = "\
 a square|0 0 10 0 10 10 0 10|200|0 0 10 0 10 10 0 10|4|0 0 10 0 10 10 0 10|4|no spikes|0 0 10 0 10 10 0 10
 the square backwards|0 10 10 10 10 0 0 0|-200|0 10 10 10 10 0 0 0|4|0 10 10 10 10 0 0 0|4|no spikes|0 0 0 10 10 10 10 0
@@ -70,7 +70,7 @@ fn has_area(row: &Row<'_, impl Abort>, points: &[IntPoint<i32>], two: i64) {
     row.equal(points.is_clockwise_ordered(), two <= 0, "clockwise");
 }
 
-/// The contour is simple exactly where it equals `left`. Each call leaves `left`, and the simplifier does so in this
+/// The contour is simple exactly if it equals `left`. Each call leaves `left`, and the simplifier does so in this
 /// number of visits, whatever it has cleaned before.
 fn is_simplified(
     row: &Row<'_, impl Abort>,
@@ -102,7 +102,7 @@ fn is_simplified_in_place(row: &Row<'_, impl Abort>, [given, left]: [&str; 2]) -
 }
 
 /// The contour has spikes or none. Each call of the despiker leaves `left`, in this number of visits. In place a
-/// contour without spikes stays as it is, another becomes `left`, and a second call changes nothing.
+/// contour without spikes is unchanged, another becomes `left`, and a second call changes nothing.
 fn is_despiked(
     row: &Row<'_, impl Abort>,
     [given, left]: [&str; 2],

@@ -1,4 +1,4 @@
--- The definitions of text at texts that are written out.
+-- The definitions of text at literal texts.
 use Rattle.std.proofs.Common.{◌≡◌, [], ◌∷◌, ◌++◌, refl, subst, arith, rules}
 use Rattle.std.specs.Prelude.{ℤ, pos, negsuc, codes}
 use Rattle.std.specs.Fmt.{signed_decimal}
@@ -23,14 +23,14 @@ ended_lines = refl
 open_line : lines_of (codes "1 2\r\n3") ≡ codes "1 2\r" ∷ (codes "3" ∷ [])
 open_line = refl
 
--- the coordinates in turn, a space between them and none at either end
+-- the coordinates in turn are separated by spaces, with none at either end
 shown_points : shown (point (negsuc 6) (pos 40) ∷ (point (pos 0) (pos 5) ∷ [])) ≡ signed_decimal (negsuc 6) ++ (space ∷ (signed_decimal (pos 40) ++ (space ∷ (signed_decimal (pos 0) ++ (space ∷ signed_decimal (pos 5))))))
 shown_points = refl
 
 shown_none : shown [] ≡ []
 shown_none = refl
 
--- a sign and zeros in front change nothing; what doesn't fit is no decimal
+-- a sign and leading zeros don't change the value; a number that doesn't fit is no decimal
 signed : IsDecimal (codes "-007") (negsuc 6)
 signed = (search rules, search rules, refl)
 

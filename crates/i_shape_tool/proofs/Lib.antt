@@ -1,8 +1,8 @@
 -- reading a text: words, numbers and lines
-pub mod reading
+pub mod Reading
 -- showing a number and a contour
-pub mod showing
+pub mod Showing
 -- a text, line by line, and one run of the program
-pub mod running
--- the definitions at texts that are written out
+pub mod Running
+-- the definitions at literal texts
 pub mod Examples

@@ -11,7 +11,7 @@ word_of Area = codes "area"
 word_of Canonical = codes "canonical"
 word_of Compact = codes "compact"
 
--- a command that has an answer only for safe contours
+-- a command that answers only safe contours
 abbrev pub IsCleaner : Command → Type 0
 IsCleaner Simplify = Unit {0}
 IsCleaner Despike = Unit {0}

@@ -1,7 +1,7 @@
 pub mod Points
 pub mod Command
 pub mod Text
-pub mod Numeral
+pub mod Steps
 pub mod Run
 pub mod Serve
 pub mod PartedTexts

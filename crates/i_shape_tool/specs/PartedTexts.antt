@@ -1,4 +1,4 @@
--- Two texts one after the other, of which the first ends its lines.
+-- Two texts, one after the other, of which the first ends its lines.
 use Rattle.std.specs.Prelude.{◌≡◌, ◌⊎◌, ℕ, ◌+◌, List, [], ◌∷◌, ◌++◌, length}
 use Rattle.std.specs.List.{AllByRecursion}
 use Rattle.i_shape_tool.specs.declared.command.Command.{Command}
@@ -11,7 +11,7 @@ use Rattle.i_shape_tool.specs.Run.{IsGood, AnswersText, IsFirstFault}
 abbrev pub EndsItsLines : List ℕ → Type 0
 EndsItsLines text = (text ≡ []) ⊎ ((front : List ℕ) × (text ≡ front ++ newline ∷ []))
 
--- the output is an answer to the first text and then an answer to the second
+-- the output is an answer to the first text followed by one to the second
 pub record PartedAnswer (command : Command) (text more output : List ℕ) : Type 0 where
   pub first : List ℕ
   pub second : List ℕ
@@ -25,8 +25,8 @@ lines_later n (NotAContour line) = NotAContour (n + line)
 lines_later n (OutOfRange line) = OutOfRange (n + line)
 lines_later n OutOfMemory = OutOfMemory
 
--- no line of the first text is faulty, and the fault is the first one of the second, its line counted on from those of
--- the first
+-- no line of the first text is faulty, and the fault is the first one of the second, with its line counted from the
+-- start of the first
 pub record IsFaultOfSecond (command : Command) (text more : List ℕ) (fault : ToolFault) : Type 0 where
   pub good : AllByRecursion (IsGood command) (lines_of text)
   pub later : ToolFault

@@ -28,14 +28,14 @@ IsGood command line = (c : List Point) × Gives command line c
 abbrev pub ReadsUnsafe : Command → List ℕ → Type 0
 ReadsUnsafe command line = IsCleaner command × ((c : List Point) × Reads line c × (IsSafe c → ⊥))
 
--- the line of this number has this fault; memory may always be refused
+-- the line of this number has this fault; `OutOfMemory` is always possible
 abbrev pub IsFaultOfLine : Command → List ℕ → ℕ → ToolFault → Type 0
 IsFaultOfLine command line number (NotAContour n) = (n ≡ number) × ReadsNone line
 IsFaultOfLine command line number (OutOfRange n) = (n ≡ number) × ReadsUnsafe command line
 IsFaultOfLine command line number OutOfMemory = Unit {0}
 
--- the fault is that of some line, counted from 1, and no line before it is faulty; memory may be refused at any line,
--- and a text without lines has no fault
+-- the fault is that of some line, counted from 1, and no line before it is faulty; `OutOfMemory` is possible at any
+-- line, and a text without lines has no fault
 abbrev pub IsFirstFault : Command → List ℕ → ToolFault → Type 0
 IsFirstFault command text fault =
     (before : List (List ℕ)) × (line : List ℕ) × (after : List (List ℕ))
@@ -61,7 +61,7 @@ ended answer = answer ++ newline ∷ []
 abbrev pub shown_line : List Point → List ℕ
 shown_line c = ended (shown c)
 
--- the answer is the line of the cleaned contour, if `Cleaned` relates a contour to the cleaner's results
+-- the answer is the line of the cleaned contour; `Cleaned` relates a contour to the cleaner's results
 abbrev pub ShowsCleaned : (List Point → Option (List Point) → Type 0) → List Point → List ℕ → Type 0
 ShowsCleaned Cleaned c answer = (r : Option (List Point)) × Cleaned c r × (answer ≡ ended (shown_or_none r))
 
@@ -69,8 +69,8 @@ ShowsCleaned Cleaned c answer = (r : Option (List Point)) × Cleaned c r × (ans
 abbrev pub ShowsArea : List Point → List ℕ → Type 0
 ShowsArea c answer = answer ≡ ended (shown_area c)
 
--- the output is an answer to the contour of each line, in order, and nothing else, if `Answers` relates a contour to
--- its answers
+-- the output is an answer to the contour of each line, in order, and nothing else; `Answers` relates a contour to its
+-- answers
 abbrev pub AnswersLines : Command → (List Point → List ℕ → Type 0) → List ℕ → List ℕ → Type 0
 AnswersLines command Answers text output =
     (contours : List (List Point)) × (answers : List (List ℕ))
@@ -78,7 +78,7 @@ AnswersLines command Answers text output =
     × AllZip Answers contours answers
     × (output ≡ concat answers)
 
--- the output is each contour that is left of those that the lines read, in order, each on a line of its own, and
+-- the output is what cleaning leaves of the contours that the lines read, in order, each on a line of its own, and
 -- nothing else
 abbrev pub ShowsCompact : List ℕ → List ℕ → Type 0
 ShowsCompact text output =
@@ -87,7 +87,7 @@ ShowsCompact text output =
     × cleaned.Compact contours kept
     × (output ≡ flat_map shown_line kept)
 
--- the output is the command's answer to the text: all but `compact` answer each line by one of their own
+-- the output is the command's answer to the text: all commands but `compact` answer each line by one of its own
 abbrev pub AnswersText : Command → List ℕ → List ℕ → Type 0
 AnswersText Simplify text output = AnswersLines Simplify (ShowsCleaned SimpleAnswer) text output
 AnswersText Despike text output = AnswersLines Despike (ShowsCleaned SpikelessAnswer) text output

@@ -35,11 +35,11 @@ told (Fault faults.OutOfMemory) = codes "out of memory"
 told Input = codes "input or output failed"
 told Output = codes "input or output failed"
 
--- known bytes grow by the first ones of bs: none, some or all
+-- known bytes grow by a prefix of bs
 abbrev pub AppendsBeginning : Option (List ℕ) → Option (List ℕ) → List ℕ → Type 0
 AppendsBeginning before after bs = (n : ℕ) × Appends before after (take n bs)
 
--- the command is asked for, and the output gained its answer to the input, where those are known
+-- the command is asked for, and the output gained its answer to the input, if both are known
 abbrev pub IsServed : List (String Global) → Option (List ℕ) → Option (List ℕ) → Option (List ℕ) → Type 0
 IsServed words input before after =
     (command : Command) × Asks words command
@@ -50,7 +50,7 @@ abbrev pub HasAnswer : Command → List ℕ → Type 0
 HasAnswer command text = (answer : List ℕ) × AnswersText command text answer
 
 -- the complaint is true of the words and of the input, if that is known; a fault is one of the text that was read, and
--- the output fails only if there is an answer to write
+-- writing fails only if there is an answer to write
 abbrev pub IsTrueComplaint : List (String Global) → Option (List ℕ) → Complaint → Type 0
 IsTrueComplaint words input Usage = (command : Command) → Asks words command → ⊥
 IsTrueComplaint words input NotUtf8 = (command : Command) × Asks words command × IfSome input (λ text. IsUtf8 text → ⊥)
@@ -59,13 +59,13 @@ IsTrueComplaint words input (Fault fault) =
 IsTrueComplaint words input Input = (command : Command) × Asks words command
 IsTrueComplaint words input Output = (command : Command) × Asks words command × IfSome input (HasAnswer command)
 
--- the command is asked for, and the output gained the beginning of its answer to the input, where those are known
+-- the command is asked for, and the output gained a prefix of its answer to the input, if both are known
 abbrev pub IsBegun : List (String Global) → Option (List ℕ) → Option (List ℕ) → Option (List ℕ) → Type 0
 IsBegun words input before after =
     (command : Command) × Asks words command
     × IfSome input (λ text. (answer : List ℕ) × AnswersText command text answer × AppendsBeginning before after answer)
 
--- the output holds what it held, if that is known, and where it failed, the beginning of an answer behind it
+-- the output is unchanged, if known; if writing failed, it gained a prefix of an answer
 abbrev pub LeavesOutput : List (String Global) → Option (List ℕ) → Complaint → Option (List ℕ) → Option (List ℕ) → Type 0
 LeavesOutput words input Usage before after = Keeps before after
 LeavesOutput words input NotUtf8 before after = Keeps before after
@@ -74,7 +74,7 @@ LeavesOutput words input Input before after = Keeps before after
 LeavesOutput words input Output before after = IsBegun words input before after
 
 -- one run of the program: the status is 0 and the output answers the input, or the status is that of a true complaint,
--- and nothing was written but the beginning of an answer where the output failed
+-- and nothing was written but a prefix of an answer if writing failed
 abbrev pub EndsWith : List (String Global) → Option (List ℕ) → Option (List ℕ) → Option (List ℕ) → ℕ → Type 0
 EndsWith words input before after status =
     ((status ≡ 0) × IsServed words input before after)

@@ -20,7 +20,7 @@ abbrev pub IsDecimal : List ℕ → ℤ → Type 0
 IsDecimal word z =
     IsNumeral 10 (without_leading_sign word) × FitsSigned w32 z × (z ≡ signed_digits_value 10 word)
 
--- the words are decimals of the coordinates, x and y in turn
+-- the words are decimals of the points' coordinates, x and y in turn
 abbrev pub SayPoints : List (List ℕ) → List Point → Type 0
 SayPoints [] [] = Unit {0}
 SayPoints [] (p ∷ c) = ⊥
@@ -28,8 +28,8 @@ SayPoints (x ∷ []) c = ⊥
 SayPoints (x ∷ y ∷ words) [] = ⊥
 SayPoints (x ∷ y ∷ words) (p ∷ c) = IsDecimal x p.x × IsDecimal y p.y × SayPoints words c
 
--- the line is decimals separated by single spaces, the coordinates of the points of c in turn; with no decimal it is
--- empty, and so is c
+-- the line is decimals separated by single spaces, the coordinates of the points of c in turn; the empty line reads the
+-- empty contour
 abbrev pub Reads : List ℕ → List Point → Type 0
 Reads line c = (words : List (List ℕ)) × (line ≡ join_with_byte space words) × SayPoints words c
 
@@ -41,12 +41,12 @@ ReadsNone line = (c : List Point) → Reads line c → ⊥
 abbrev pub words_of : List ℕ → List (List ℕ)
 words_of text = slice_split (λ b. b == space) text
 
--- the words of what is left of a line, if anything is
+-- the words left of a line, none if nothing is left
 abbrev pub words_left : Option (List ℕ) → List (List ℕ)
 words_left None = []
 words_left (Some text) = words_of text
 
--- the first two words are decimals of the point's coordinates, and more follows them
+-- the first two words are decimals of the point's coordinates, and `more` follows them
 abbrev pub SayPoint : List (List ℕ) → Point → List (List ℕ) → Type 0
 SayPoint words p more =
     (x : List ℕ) × (y : List ℕ) × (words ≡ x ∷ (y ∷ more)) × IsDecimal x p.x × IsDecimal y p.y
@@ -64,15 +64,15 @@ shown c = join_with_byte space (map signed_decimal (coordinates c))
 abbrev pub FitPoint : Point → Type 0
 FitPoint p = FitsSigned w32 p.x × FitsSigned w32 p.y
 
--- the coordinates of a point, a space before each
+-- the coordinates of a point, each after a space
 abbrev pub spaced : Point → List ℕ
 spaced p = space ∷ (signed_decimal p.x ++ (space ∷ signed_decimal p.y))
 
--- the coordinates of the points in turn, a space before each
+-- the coordinates of the points in turn, each after a space
 abbrev pub spaced_points : List Point → List ℕ
 spaced_points c = flat_map spaced c
 
--- the parts between the ends of lines are the lines, except that an empty last part is none
+-- the lines among the parts between newlines: all but an empty last part
 abbrev pub lines_of_parts : List (List ℕ) → List (List ℕ)
 lines_of_parts [] = []
 lines_of_parts (part ∷ []) = if length part == 0 then [] else part ∷ []

@@ -65,7 +65,7 @@ impl<C: ContourCleaner> Cleaned<C> {
     fn clean(&mut self, contour: &[IntPoint<i32>]) -> Result<&[IntPoint<i32>], ShapeError>
         requires { IsSafe (contour_of contour.now) }
         ensures { IfOk result (λ left.
-            C.answers (contour_of contour.now) (slot (contour_of left.now))) }
+            C.meaning.answers (contour_of contour.now) (slot (contour_of left.now))) }
     {
         // Only the length matters: what is there is overwritten.
         if let Some(longer) = contour.get(self.left.len()..) {
@@ -81,7 +81,7 @@ impl<C: ContourCleaner> Cleaned<C> {
 impl<C: ContourCleaner> ContourAnswer for Cleaned<C> {
     ghost takes = { IsSafe };
 
-    ghost answers = { ShowsCleaned C.answers };
+    ghost answers = { ShowsCleaned C.meaning.answers };
 
     fn answer(&mut self, contour: &[IntPoint<i32>], output: &mut String) -> Result<(), ToolFault> {
         let left = self.clean(contour)?;

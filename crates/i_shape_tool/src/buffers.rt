@@ -19,7 +19,7 @@ use std::alloc::Global;
 /// # Errors
 ///
 /// `TooManyPoints` if there are more than `usize::MAX` contours, or if they have more than `usize::MAX` points
-/// together; otherwise `OutOfMemory`. Neither can occur where there is no shape.
+/// together; otherwise `OutOfMemory`. Neither can occur if there is no shape.
 pub fn clean_through_buffer<I: IntNumber>(
     alloc: Global,
     shapes: &[IntShape<I>],

@@ -15,7 +15,7 @@ static PAIRS: [u8; 200] = *b"0001020304050607080910111213141516171819\
 pub(crate) const POINT_ROOM: usize = 24;
 
 /// Writes a space and the decimal of a number so that they end at `end`. Returns where they start.
-#[tactic(auto, using(crate::proofs::showing::Decimals::length_number, crate::proofs::showing::Decimals::signed_ascii, crate::proofs::showing::Decimals::minus_written, crate::proofs::showing::Decimals::none_written))]
+#[tactic(auto, using(crate::proofs::Showing::Decimals::length_number, crate::proofs::Showing::Decimals::signed_ascii, crate::proofs::Showing::Decimals::minus_written, crate::proofs::Showing::Decimals::none_written))]
 pub(crate) fn write_number(number: i32, text: &mut [u8], end: usize) -> usize
     requires { (12 ≤ end) × (end ≤ length text.old) }
     ensures room { end ≤ result + 12 }
@@ -31,7 +31,7 @@ pub(crate) fn write_number(number: i32, text: &mut [u8], end: usize) -> usize
 }
 
 /// Writes the digits of a number so that they end at `end`. Returns where they start.
-#[tactic(auto, using(crate::proofs::showing::Decimals::length_pair, crate::proofs::showing::Decimals::length_two, crate::proofs::showing::Decimals::length_one, std::proofs::lemmas::Fmt::decimal_digit, crate::proofs::showing::Decimals::decimal_pair, crate::proofs::showing::Decimals::decimal_two))]
+#[tactic(auto, using(crate::proofs::Showing::Decimals::length_pair, crate::proofs::Showing::Decimals::length_two, crate::proofs::Showing::Decimals::length_one, std::proofs::lemmas::Fmt::decimal_digit, crate::proofs::Showing::Decimals::decimal_pair, crate::proofs::Showing::Decimals::decimal_two))]
 fn write_digits(number: u32, text: &mut [u8], end: usize) -> usize
     requires { (length (decimal number) ≤ end) × (end ≤ length text.old) }
     ensures start { result + length (decimal number) ≡ end }

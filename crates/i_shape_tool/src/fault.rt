@@ -33,7 +33,7 @@ impl<T: Drop> From<AllocFailed<T>> for ToolFault {
     }
 }
 
-/// `TooManyPoints` can't occur here: no text has that many points.
+/// `TooManyPoints` can't occur here: no text has so many points.
 impl From<ShapeError> for ToolFault {
     ghost from_gives = { λ _ fault. fault ≡ OutOfMemory };
 

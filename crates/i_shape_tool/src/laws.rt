@@ -11,20 +11,20 @@ use crate::command::Command;
 use crate::fault::ToolFault;
 use crate::program::Complaint;
 
-/// A line reads as one contour at most.
+/// A line reads as at most one contour.
 pub fn one_reading()
     ensures { (line : List ℕ) (c d : List Point) → Reads line c → Reads line d → c ≡ d }
 {}
 
 /// The text of a contour whose coordinates fit `i32` reads as that contour.
-#[tactic(auto, using(crate::proofs::reading::Laws::shown_reads))]
+#[tactic(auto, using(crate::proofs::Reading::Laws::shown_reads))]
 pub fn shown_reads_back()
     ensures { (c : List Point) → AllByRecursion FitPoint c → Reads (shown c) c }
 {}
 
 /// An answer to a text that ends its lines, followed by an answer to a second text, is an answer to the two as one
 /// text.
-#[tactic(auto, using(crate::proofs::running::TwoTexts::answers_concatenated))]
+#[tactic(auto, using(crate::proofs::Running::TwoTexts::answers_concatenated))]
 pub fn answers_concatenated()
     ensures { (command : Command) (text more output added : List ℕ)
         → EndsItsLines text → AnswersText command text output
@@ -32,7 +32,7 @@ pub fn answers_concatenated()
 {}
 
 /// An answer to the two as one text is an answer to the first, followed by one to the second.
-#[tactic(auto, using(crate::proofs::running::TwoTexts::answers_parted))]
+#[tactic(auto, using(crate::proofs::Running::TwoTexts::answers_parted))]
 pub fn answers_parted()
     ensures { (command : Command) (text more output : List ℕ)
         → EndsItsLines text → AnswersText command (text ++ more) output
@@ -53,8 +53,7 @@ pub fn fault_concatenated()
         → IsFirstFault command text fault ⊎ IsFaultOfSecond command text more fault }
 {}
 
-/// `==` of two commands is true exactly where they are the same. A clone is the command itself, and cloning never
-/// fails.
+/// `==` of two commands is true exactly if they are the same. A clone is the command itself, and cloning never fails.
 pub fn commands_equal(_a: &Command, _b: &Command)
     ensures compared { IsTrue (⟦<Command as PartialEq>⟧.eq _a.now _b.now) ↔ (_a.now ≡ _b.now) }
     ensures cloned { ⟦<Command as Clone>⟧.is_clone _a.now _b.now → _b.now ≡ _a.now }

@@ -27,8 +27,8 @@ pub fn first_line(text: &str) -> (&str, &str)
 ///
 /// # Errors
 ///
-/// `NotAContour` where the line holds no contour, `OutOfRange` where a command that cleans gets a point that isn't
-/// safe, and `OutOfMemory`, if an allocation fails.
+/// `NotAContour` if the line holds no contour, `OutOfRange` if a command that cleans gets a point that isn't safe, and
+/// `OutOfMemory`, if an allocation fails.
 pub fn read_line(
     command: Command,
     line: &str,
@@ -48,7 +48,7 @@ pub fn read_line(
 }
 
 /// Reads the contour of a line into `contour`, in place of what it held. Returns whether the line holds one.
-#[tactic(auto, using(crate::proofs::reading::Lines::read_all))]
+#[tactic(auto, using(crate::proofs::Reading::Lines::read_all))]
 fn read_contour(line: &str, contour: &mut IntContour<i32>) -> Result<bool, AllocError>
     ensures { IfOk result
         (λ reads. MatchBool reads (Reads line.now (contour_of contour.new.items))
@@ -70,7 +70,7 @@ fn read_contour(line: &str, contour: &mut IntContour<i32>) -> Result<bool, Alloc
 }
 
 /// Returns the point that the first two words of a text write, and the text after them.
-#[tactic(auto, using(crate::proofs::reading::Lines::some_word, crate::proofs::reading::Lines::no_first))]
+#[tactic(auto, using(crate::proofs::Reading::Lines::some_word, crate::proofs::Reading::Lines::no_first))]
 fn first_point(text: &[u8]) -> Option<(IntPoint<i32>, Option<&[u8]>)>
     ensures says { IfSome result (λ r.
         SayPoint (words_of text.now) (point_of r.0) (words_left (option_copied r.1))) }

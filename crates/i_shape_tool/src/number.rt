@@ -5,12 +5,12 @@ ghost use Rattle.std.specs.Int.{w32};
 ghost use Rattle.std.specs.Int.RustNames.{FitsSigned};
 ghost use Rattle.std.specs.Str.Parse.{IsNumeral, digits_value, without_leading_sign, starts_with_minus};
 ghost use Rattle.i_shape_tool.specs.Text.{IsDecimal, words_of, words_left};
-ghost use Rattle.i_shape_tool.specs.Numeral.{EndsWord, HasDigits, SaysNumber, with_sign};
+ghost use Rattle.i_shape_tool.specs.Steps.Numeral.{EndsWord, HasDigits, SaysNumber, with_sign};
 
 /// The absolute value of the least 32-bit number, which is the largest there is.
 const LARGEST: u64 = 1 << 31;
 
-/// Returns the number that the first word of a text writes, and the text after the space behind it.
+/// Returns the number that the first word of a text writes, and the text after the space that ends the word.
 pub(crate) fn first_number(text: &[u8]) -> Option<(i32, Option<&[u8]>)>
     ensures says { IfSome result
         (λ r. SaysNumber (words_of text.now) r.0 (words_left (option_copied r.1))) }
@@ -45,7 +45,7 @@ fn without_sign(text: &[u8]) -> (bool, &[u8])
 
 /// Returns the number that the leading digits of a text write, and the text after them, or `None` if there is no digit
 /// or the number is too large for 32 bits.
-#[tactic(auto, using(crate::proofs::reading::Numerals::take_digit))]
+#[tactic(auto, using(crate::proofs::Reading::Numerals::take_digit))]
 fn first_digits(text: &[u8]) -> Option<(u64, &[u8])>
     ensures writes { IfSome result (λ r. HasDigits text.now r.0 r.1.now) }
     ensures fits { IfSome result (λ r. r.0 ≤ 2 ^ 31) }

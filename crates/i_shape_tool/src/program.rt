@@ -105,7 +105,7 @@ fn read_all<R: Read>(alloc: Global, input: &mut R) -> Result<Vec<u8>, Complaint>
 }
 
 /// Reads all input, and writes the answer to it. After `Ok` it has written the answer and nothing else, after `Output`
-/// a beginning of it, and after any other complaint nothing.
+/// a prefix of it, and after any other complaint nothing.
 fn answer<R: Read, W: Write>(
     alloc: Global,
     words: &[String],
@@ -129,7 +129,7 @@ fn answer<R: Read, W: Write>(
     write_whole(output, answer.as_bytes()).map_err(|_error| Complaint::Output)
 }
 
-/// Writes all bytes, and flushes. After an error it has written a beginning of the bytes.
+/// Writes all bytes, and flushes. After an error it has written a prefix of the bytes.
 fn write_whole<W: Write>(output: &mut W, bytes: &[u8]) -> io::Result<()>
     ensures whole { OnOk result (Appends (W.contents output.old) (W.contents output.new) bytes.now) }
     ensures begun { AppendsBeginning (W.contents output.old) (W.contents output.new) bytes.now }
@@ -138,7 +138,7 @@ fn write_whole<W: Write>(output: &mut W, bytes: &[u8]) -> io::Result<()>
     output.flush()
 }
 
-/// Writes all bytes. After an error it has written a beginning of them, which `write_all` doesn't promise.
+/// Writes all bytes. After an error it has written a prefix of them, which `write_all` doesn't promise.
 fn write_bytes<W: Write>(output: &mut W, bytes: &[u8]) -> io::Result<()>
     ensures whole { OnOk result (Appends (W.contents output.old) (W.contents output.new) bytes.now) }
     ensures begun { AppendsBeginning (W.contents output.old) (W.contents output.new) bytes.now }
@@ -160,10 +160,10 @@ fn write_bytes<W: Write>(output: &mut W, bytes: &[u8]) -> io::Result<()>
 }
 
 /// Runs the program once, and returns its exit status. If `words`, the arguments after the program's name, are one
-/// command, it reads all input and writes the answer to `output`. Otherwise it reads nothing. Where it has no answer,
-/// or can't write it, it writes a line to `errors`. If that fails, the line is lost, and the status stays. Where
-/// `output` fails, it has gained a beginning of the answer.
-#[tactic(auto, using(crate::proofs::running::Serving::is_usage))]
+/// command, it reads all input and writes the answer to `output`. Otherwise it reads nothing. If it has no answer, or
+/// can't write it, it writes a line to `errors`. If that fails, the line is lost, and the status is the same. If
+/// `output` fails, it has gained a prefix of the answer.
+#[tactic(auto, using(crate::proofs::Running::Serving::is_usage))]
 pub fn serve<R: Read, W: Write, E: Write>(
     alloc: Global,
     words: &[String],

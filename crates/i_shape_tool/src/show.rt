@@ -21,7 +21,7 @@ const POINTS: usize = 16;
 /// # Errors
 ///
 /// `AllocError`, if an allocation fails.
-#[tactic(auto, using(crate::proofs::showing::Contours::without_first_space))]
+#[tactic(auto, using(crate::proofs::Showing::Contours::without_first_space))]
 pub fn show_contour(output: &mut String, contour: &[IntPoint<i32>]) -> Result<(), AllocError>
     ensures { OnOk result (string_bytes output.new ≡ string_bytes output.old
         ++ shown (contour_of contour.now)) }
@@ -41,7 +41,7 @@ pub fn show_contour(output: &mut String, contour: &[IntPoint<i32>]) -> Result<()
 
 /// Writes the coordinates of the points, a space before each, so that they end where the text does. Returns where they
 /// start.
-#[tactic(auto, using(crate::proofs::showing::Contours::starts_within))]
+#[tactic(auto, using(crate::proofs::Showing::Contours::starts_within))]
 fn write_points(points: &[IntPoint<i32>], text: &mut [u8]) -> usize
     requires { length points.now * 24 ≤ length text.old }
     ensures within { 0 < length points.now → result < length text.new }
@@ -58,7 +58,7 @@ fn write_points(points: &[IntPoint<i32>], text: &mut [u8]) -> usize
 }
 
 /// Writes the coordinates of a point, a space before each, so that they end at `end`. Returns where they start.
-#[tactic(auto, using(crate::proofs::showing::Decimals::spaced_ascii))]
+#[tactic(auto, using(crate::proofs::Showing::Decimals::spaced_ascii))]
 fn write_point(point: IntPoint<i32>, text: &mut [u8], end: usize) -> usize
     requires { (24 ≤ end) × (end ≤ length text.old) }
     ensures room { end ≤ result + 24 }

@@ -26,7 +26,7 @@ use std::alloc::Global;
 ///
 /// # Errors
 ///
-/// `NotAContour` and `OutOfRange` give the first line that is faulty for the command. `OutOfMemory` occurs where an
+/// `NotAContour` and `OutOfRange` give the first line that is faulty for the command. `OutOfMemory` occurs if an
 /// allocation fails and no faulty line was found before.
 pub fn run(alloc: Global, command: Command, text: &str) -> Result<String, ToolFault>
     ensures ok { IfOk result (λ output. AnswersText command text.now (string_bytes output)) }

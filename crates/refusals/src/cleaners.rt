@@ -27,7 +27,7 @@ fn of_a_new_cleaner(rt: HostRuntime) {
     call!(rt, "ContourDeSpiker::despike_counted" => ContourDeSpiker::new(alloc).despike_counted(points));
 }
 
-/// A simplifier that has cleaned a shorter contour before. It is used again after a refusal, and returns what a new one
+/// A simplifier that has cleaned a shorter contour before. It is used again after a failure, and returns what a new one
 /// does.
 #[test]
 fn of_a_used_cleaner(rt: HostRuntime) {

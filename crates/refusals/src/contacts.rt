@@ -1,4 +1,4 @@
-//! Contacts of edges, which do without memory where it is refused.
+//! Contacts of edges, by calls that can do without memory.
 
 use crate::given::{SQUARE, points, safe};
 use crate::told::{answered, begun, spared};

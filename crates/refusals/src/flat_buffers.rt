@@ -28,7 +28,7 @@ pub fn contours(
     })
 }
 
-/// A buffer of these lists with no room left; where there are contours, they are one shape.
+/// A buffer of these lists with no room left; if there are contours, they are one shape.
 pub fn shapes(
     alloc: Global,
     points: &[IntPoint<i32>],
@@ -68,7 +68,7 @@ pub fn spot_shapes(
     })
 }
 
-/// The test stops where a range can't be read, or a point isn't safe.
+/// The test stops if a range can't be read, or a point isn't safe.
 pub fn test_contours<I: IntNumber>(rt: &impl Abort, buffer: &FlatContoursBuffer<I>)
     ensures readable { All (InOrder (length buffer.now.points.items)) buffer.now.ranges.items }
     ensures safe { IsSafeShape I.width (contours_in I.value buffer.now) }

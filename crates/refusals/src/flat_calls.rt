@@ -157,7 +157,7 @@ fn read_of_points_of_any_kind(rt: HostRuntime) {
     }
 }
 
-/// The buffer of contours is cleaned without zero turns, or without spikes, by a call of this name.
+/// A call of this name removes zero turns or spikes from the buffer of contours.
 macro_rules! cleans {
     ($rt:ident, $given:ident($($list:expr),*) after $test:ident, $name:expr => $call:ident) => {
         on!($rt, $given($rt.alloc(), $($list),*), $name, it => {

@@ -38,7 +38,7 @@ pub const TURNED: [IntPoint<i32>; 5] = points![[6, 0], [0, 0], [2, 0], [1, 0], [
 /// What a buffer holds before a call.
 pub const MARK: [IntPoint<i32>; 1] = points![[9, 9]];
 
-/// These points. The test stops where one isn't safe.
+/// These points. The test stops if one isn't safe.
 pub fn safe<'a, I: IntNumber>(rt: &impl Abort, points: &'a [IntPoint<I>]) -> &'a [IntPoint<I>]
     ensures { All (IsSafe I.width) (contour_of I.value result.now) }
 {
@@ -46,7 +46,7 @@ pub fn safe<'a, I: IntNumber>(rt: &impl Abort, points: &'a [IntPoint<I>]) -> &'a
     points
 }
 
-/// The contour of these points. The test stops where one isn't safe.
+/// The contour of these points. The test stops if one isn't safe.
 pub fn contour<I: IntNumber>(
     rt: &impl Abort,
     alloc: Global,
@@ -57,7 +57,7 @@ pub fn contour<I: IntNumber>(
     Vec::from_slice(alloc, safe(rt, points))
 }
 
-/// The shape of these contours. The test stops where a point isn't safe.
+/// The shape of these contours. The test stops if a point isn't safe.
 pub fn shape<I: IntNumber>(
     rt: &impl Abort,
     alloc: Global,
@@ -73,7 +73,7 @@ pub fn shape<I: IntNumber>(
     Ok(shape)
 }
 
-/// The list of one shape of these contours. The test stops where a point isn't safe.
+/// The list of one shape of these contours. The test stops if a point isn't safe.
 pub fn one_shape<I: IntNumber>(
     rt: &impl Abort,
     alloc: Global,

@@ -54,7 +54,7 @@ fn runs(rt: HostRuntime) -> Result<(), Fail> {
     Ok(())
 }
 
-/// Room for what is written, so that no growth of a writer is refused.
+/// Room for what is written, so that no writer grows.
 fn room(alloc: Global) -> Result<Vec<u8>, AllocError> {
     Vec::with_capacity(alloc, 64)
 }
@@ -81,7 +81,7 @@ fn served(rt: HostRuntime) -> Result<(), Fail> {
     println!(rt; "serve {end}")?;
     assert_eq!(rt; output.as_slice(), wanted.as_bytes());
     assert_eq!(rt; errors.as_slice(), line.as_bytes());
-    // A growth is refused while the input is read, or else to the command.
+    // The growth fails while the input is read, or else in the command.
     assert!(rt;
         matches!((status, is_read), (0 | 3, true) | (4, false)),
         "{status}"

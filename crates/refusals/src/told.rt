@@ -3,13 +3,13 @@
 use i_shape::ShapeError;
 use std::process::Abort;
 
-/// Tells that a call begins. The call ends by `ended`.
+/// Prints that a call begins. `ended` prints how it ends.
 pub fn begun(rt: &(impl Abort + Print), name: &str) {
     println!(rt; "{name} begins").expect(rt, name);
 }
 
-/// Tells how a call ended. The test stops at a refusal for anything but memory, and at one that changed what the call
-/// was given.
+/// Prints how a call ended. The test stops at an error other than `OutOfMemory`, and at one that changed the call's
+/// argument.
 pub fn ended<T>(
     rt: &(impl Abort + Print),
     name: &str,
@@ -27,13 +27,13 @@ pub fn ended<T>(
     println!(rt; "{name} {end}").expect(rt, name);
 }
 
-/// Prints that a call has returned which does without memory where a growth is refused.
+/// Prints that a call has returned which can do without memory.
 pub fn answered(rt: &(impl Abort + Print), name: &str) {
     println!(rt; "{name} answered").expect(rt, name);
 }
 
-/// Compares a call with a second one of an equal value. A run refuses one growth, so it refuses at most one of them.
-/// Where it refuses none, both answer and leave the same.
+/// Compares a call with a second one of an equal value. A run makes one growth fail, so at most one of them fails. If
+/// neither fails, both return and leave the same.
 pub fn compared<T: PartialEq + Drop>(
     rt: &impl Abort,
     name: &str,
@@ -48,8 +48,8 @@ pub fn compared<T: PartialEq + Drop>(
     assert!(rt; is_same, "{name}: a second call differs");
 }
 
-/// A call, by its name. It is made a second time, and both results are compared. One written as `Ok`, which nothing
-/// refuses, is made once.
+/// A call, by its name. It is made a second time, and both results are compared. One written as `Ok` can't fail, and is
+/// made once.
 macro_rules! call {
     ($rt:ident, $name:expr => Ok($answer:expr)) => {{
         begun(&$rt, $name);
@@ -64,8 +64,8 @@ macro_rules! call {
     }};
 }
 
-/// A call of what is given, which it may change. Refused, it leaves that as it was, or as `refused` has it. Where what
-/// is given can't be had, there is no call.
+/// A call that may change its argument. If it fails, the argument is unchanged, or equals `refused`. If setup runs out
+/// of memory, the call is skipped.
 macro_rules! on {
     ($rt:ident, $given:expr, $name:expr, $value:ident => $outcome:expr) => {
         on!($rt, $given, $name, $value => $outcome, refused => $given)
@@ -83,8 +83,7 @@ macro_rules! on {
     };
 }
 
-/// A call that does without memory where a growth is refused, told by its name. It is made a second time, and both
-/// answers are the same.
+/// A call that can do without memory, by its name. It is made a second time, and returns the same.
 macro_rules! spared {
     ($rt:ident, $name:expr => $answer:expr) => {{
         begun(&$rt, $name);

@@ -8,6 +8,7 @@ use i_shape::IntNumber;
 use i_shape::flat::buffer::{FlatContoursBuffer, FlatShapesBuffer};
 use i_shape::flat::float::{FloatFlatContoursBuffer, FloatFlatShapesBuffer};
 use i_shape::int::IntPoint;
+use i_shape::int::cleaner::ContourCleaner;
 use i_shape::int::despike::ContourDeSpiker;
 use i_shape::int::safe_range::IntSafeRange;
 use i_shape::int::simple::ContourSimplifier;
@@ -69,8 +70,8 @@ fn new_values(rt: HostRuntime) {
     let mark = safe(&rt, MARK.as_slice());
     let mut out = SQUARE;
     assert!(rt; mark.len() <= out.len());
-    call!(rt, "ContourSimplifier::new" => ContourSimplifier::new(alloc).simplify_into(mark, &mut out));
-    call!(rt, "ContourDeSpiker::new" => ContourDeSpiker::new(alloc).despike_into(mark, &mut out));
+    call!(rt, "ContourSimplifier::new" => ContourSimplifier::new(alloc).try_clean_into(mark, &mut out));
+    call!(rt, "ContourDeSpiker::new" => ContourDeSpiker::new(alloc).try_clean_into(mark, &mut out));
 }
 
 #[test]

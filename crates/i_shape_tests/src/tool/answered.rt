@@ -72,7 +72,7 @@ const ANSWERS: [(Command, &str); 5] = [
     (Command::Area, "16\n"),
 ];
 
-/// Memory is refused at no line where there is enough.
+/// With enough memory no line fails.
 #[test]
 fn a_long_text_is_answered(rt: HostRuntime) -> Result<(), Fail> {
     let row = Row::new(&rt, rt.alloc(), "3,000 lines");

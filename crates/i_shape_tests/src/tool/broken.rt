@@ -28,7 +28,7 @@ impl Read for BrokenReader {
 }
 
 /// Keeps some bytes, one at a time, each at a second try: the first is interrupted. Then it fails, or takes no byte. A
-/// flush fails where no room is left.
+/// flush fails if no room is left.
 #[derive(Drop)]
 struct BrokenWriter {
     room: usize,

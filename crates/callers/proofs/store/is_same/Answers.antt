@@ -1,7 +1,7 @@
 use Rattle.std.proofs.Common.{ℤ}
 use Rattle.std.proofs.lemmas.Bool.Decides.{Decides-at}
 use Rattle.i_shape.specs.IntPoint.{point_of}
-use Rattle.i_shape_core.proofs.plane.Contours.{points_decided}
+use Rattle.i_shape_core.proofs.Plane.Contours.{points_decided}
 use Rattle.callers.proofs.SamePoints.{lists_decided}
 use Rattle.callers.proofs.store.is_same.Goals as goal
 

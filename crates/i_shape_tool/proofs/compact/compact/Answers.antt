@@ -1,7 +1,7 @@
 use Rattle.std.proofs.lemmas.Result.{err_from_is_err_and}
 use Rattle.i_shape_tool.specs.Points.{contours_in}
 use Rattle.i_shape_tool.specs.Text.{lines_of}
-use Rattle.i_shape_tool.proofs.running.Gathering.{safe_gathered, refused_to_clean, refused_to_show}
+use Rattle.i_shape_tool.proofs.Running.Gathering.{safe_gathered, refused_to_clean, refused_to_show}
 use Rattle.i_shape_tool.proofs.compact.compact.Goals as goal
 
 pub simplify_contours-requires-clause-safe : goal.simplify_contours-requires-clause-safe

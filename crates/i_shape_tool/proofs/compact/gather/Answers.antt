@@ -1,7 +1,7 @@
 use Rattle.std.proofs.Common.{rules}
 use Rattle.std.proofs.lemmas.Result.{err_from_is_err_and}
 use Rattle.i_shape_tool.specs.declared.fault.ToolFault.TheVariants.{OutOfMemory}
-use Rattle.i_shape_tool.proofs.running.Gathering.{gathered_none, gather_more, gathered_all, fault_after_gathered}
+use Rattle.i_shape_tool.proofs.Running.Gathering.{gathered_none, gather_more, gathered_all, fault_after_gathered}
 use Rattle.i_shape_tool.proofs.compact.gather.Goals as goal
 
 pub loop-rest-init : goal.loop-rest-init

@@ -1,7 +1,7 @@
 use Rattle.std.proofs.Common.{length}
 use denote.Text.{Utf8}
 use denote.Shadow.{shadow}
-use Rattle.i_shape_tool.proofs.running.Gathering.{HasGathered}
+use Rattle.i_shape_tool.proofs.Running.Gathering.{HasGathered}
 use Rattle.i_shape_tool.proofs.compact.gather.Given as goal
 
 abbrev pub invariant-loop-rest : goal.invariant-loop-rest

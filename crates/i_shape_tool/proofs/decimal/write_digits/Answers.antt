@@ -1,7 +1,7 @@
 use Rattle.std.proofs.Common.{◌≡◌, ◌+◌, ◌-◌, ◌<◌, length, arith}
 use Rattle.std.proofs.lemmas.Fmt.{decimal_digit}
 use Rattle.std.proofs.lemmas.List.{drop-set}
-use Rattle.i_shape_tool.proofs.showing.Decimals.{length_one}
+use Rattle.i_shape_tool.proofs.Showing.Decimals.{length_one}
 use Rattle.i_shape_tool.proofs.decimal.write_digits.Goals as goal
 
 pub returns-clause-written : goal.returns-clause-written

@@ -1,6 +1,6 @@
 use Rattle.std.proofs.Common.{◌≡◌, ◌+◌, ◌%◌, set, arith, length-set}
 use Rattle.std.proofs.lemmas.List.{set_comm, drop-set}
-use Rattle.i_shape_tool.proofs.showing.Pairs.{pair_at}
+use Rattle.i_shape_tool.proofs.Showing.Pairs.{pair_at}
 use Rattle.i_shape_tool.proofs.decimal.write_pair.Goals as goal
 
 pub returns : goal.returns

@@ -1,4 +1,4 @@
-use Rattle.i_shape_tool.proofs.running.TwoTexts.{first_of_first, first_of_second, first_of_both}
+use Rattle.i_shape_tool.proofs.Running.TwoTexts.{first_of_first, first_of_second, first_of_both}
 use Rattle.i_shape_tool.proofs.laws.fault_concatenated.Goals as goal
 
 pub returns : goal.returns

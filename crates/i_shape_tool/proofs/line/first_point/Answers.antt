@@ -1,5 +1,5 @@
 use Rattle.i_shape_tool.specs.Text.{words_of}
-use Rattle.i_shape_tool.proofs.reading.Lines.{some_word, no_second}
+use Rattle.i_shape_tool.proofs.Reading.Lines.{some_word, no_second}
 use Rattle.i_shape_tool.proofs.line.first_point.Goals as goal
 
 pub returns-in_err-y-clause-no_point : goal.returns-in_err-y-clause-no_point

@@ -4,7 +4,7 @@ use Rattle.std.proofs.lemmas.List.{map-append}
 use Rattle.std.proofs.ResultArms.{chosen}
 use Rattle.i_shape_tool.specs.Points.{point_of, contour_of}
 use Rattle.i_shape_tool.specs.Text.{words_left, words_of}
-use Rattle.i_shape_tool.proofs.reading.Lines.{HasRead, read_point, read_none}
+use Rattle.i_shape_tool.proofs.Reading.Lines.{HasRead, read_point, read_none}
 use Rattle.i_shape_tool.proofs.line.read_contour.Goals as goal
 
 pub returns-in_default-first_point : goal.returns-in_default-first_point

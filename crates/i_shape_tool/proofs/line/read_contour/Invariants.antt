@@ -1,8 +1,8 @@
 use Rattle.std.specs.Option.{option_copied}
 use Rattle.i_shape_tool.specs.Points.{contour_of}
 use Rattle.i_shape_tool.specs.Text.{words_of, words_left}
-use Rattle.i_shape_tool.proofs.reading.Words.{left_len}
-use Rattle.i_shape_tool.proofs.reading.Lines.{HasRead}
+use Rattle.i_shape_tool.proofs.Reading.Words.{left_len}
+use Rattle.i_shape_tool.proofs.Reading.Lines.{HasRead}
 use Rattle.i_shape_tool.proofs.line.read_contour.Given as goal
 
 abbrev pub invariant-loop-rest : goal.invariant-loop-rest

@@ -2,8 +2,8 @@ use Rattle.std.proofs.Common.{ℕ, ◌<◌, sym, subst, arith}
 use Rattle.std.specs.Char.{digit_value, IsNotAsciiDigit}
 use Rattle.std.proofs.lemmas.List.{nil_from_length}
 use Rattle.std.proofs.lemmas.Str.Parse.{digit_from_value}
-use Rattle.i_shape_tool.specs.Numeral.{EndsDigits}
-use Rattle.i_shape_tool.proofs.reading.Numerals.{take_digit, too_large, no_digits, ends_before}
+use Rattle.i_shape_tool.specs.Steps.Numeral.{EndsDigits}
+use Rattle.i_shape_tool.proofs.Reading.Numerals.{take_digit, too_large, no_digits, ends_before}
 use Rattle.i_shape_tool.proofs.number.first_digits.Goals as goal
 use Rattle.i_shape_tool.proofs.number.first_digits.Goals.{in-Some+then-not-is_ascii_digit, in_default}
 

@@ -1,5 +1,5 @@
 use Rattle.std.proofs.Common.{◌≤◌, ◌^◌, length}
-use Rattle.i_shape_tool.proofs.reading.Numerals.{HasTaken}
+use Rattle.i_shape_tool.proofs.Reading.Numerals.{HasTaken}
 use Rattle.i_shape_tool.proofs.number.first_digits.Given as goal
 
 abbrev pub invariant-loop-first : goal.invariant-loop-first

@@ -1,8 +1,8 @@
 use Rattle.std.proofs.Common.{subst}
 use Rattle.std.specs.Int.{w32}
 use Rattle.std.proofs.lemmas.Int.{to_z-of_z}
-use Rattle.i_shape_tool.specs.Numeral.{EndsWord}
-use Rattle.i_shape_tool.proofs.reading.Numerals.{says_last, says_before, no_number, number_of_word}
+use Rattle.i_shape_tool.specs.Steps.Numeral.{EndsWord}
+use Rattle.i_shape_tool.proofs.Reading.Numerals.{says_last, says_before, no_number, number_of_word}
 use Rattle.i_shape_tool.proofs.number.first_number.Goals as goal
 
 pub returns-in_err-size-clause-no_decimal : goal.returns-in_err-size-clause-no_decimal

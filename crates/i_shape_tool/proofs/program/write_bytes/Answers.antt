@@ -1,6 +1,6 @@
 use Rattle.std.proofs.Common.{◌++◌, take}
 use Rattle.std.proofs.KnownBytes.{Appends-trans, Appends-kept}
-use Rattle.i_shape_tool.proofs.running.Serving.{begun, moved}
+use Rattle.i_shape_tool.proofs.Running.Serving.{begun, moved}
 use Rattle.i_shape_tool.proofs.program.write_bytes.Goals.{in-Ok, in-Err}
 use Rattle.i_shape_tool.proofs.program.write_bytes.Goals as goal
 

@@ -3,7 +3,7 @@ use Rattle.std.specs.Str.{IsAscii}
 use Rattle.std.proofs.lemmas.Str.{IsAscii-append}
 use Rattle.i_shape_tool.specs.Points.{contour_of, point_of}
 use Rattle.i_shape_tool.specs.Text.{spaced, spaced_points}
-use Rattle.i_shape_tool.proofs.showing.Contours.{last_spaced}
+use Rattle.i_shape_tool.proofs.Showing.Contours.{last_spaced}
 use Rattle.i_shape_tool.proofs.show.write_points.Goals as goal
 
 pub loop-last-preserved : goal.loop-last-preserved

@@ -2,7 +2,7 @@ use Rattle.std.proofs.Common.{string_bytes, subst, rules}
 use Rattle.std.proofs.lemmas.Result.{err_from_is_err_and}
 use Rattle.i_shape_tool.specs.declared.fault.ToolFault.TheVariants.{OutOfMemory}
 use Rattle.i_shape_tool.specs.Points.{contour_of}
-use Rattle.i_shape_tool.proofs.running.Lines.{answered_none, answer_more, answered_all, fault_after}
+use Rattle.i_shape_tool.proofs.Running.Lines.{answered_none, answer_more, answered_all, fault_after}
 use Rattle.i_shape_tool.proofs.text.answer_lines.Goals as goal
 
 pub loop-rest-init : goal.loop-rest-init

@@ -1,7 +1,7 @@
 use Rattle.std.proofs.Common.{length, string_bytes}
 use denote.Text.{Utf8}
 use denote.Shadow.{shadow}
-use Rattle.i_shape_tool.proofs.running.Lines.{HasAnswered}
+use Rattle.i_shape_tool.proofs.Running.Lines.{HasAnswered}
 use Rattle.i_shape_tool.proofs.text.answer_lines.Given as goal
 
 abbrev pub invariant-loop-rest : goal.invariant-loop-rest

@@ -2,7 +2,7 @@ use Rattle.std.proofs.Common.{ℤ, Some, None}
 use Rattle.i_shape.specs.Canonical.{CanonicalAnswer}
 use Rattle.i_shape.specs.ShapeLists.{shape_of}
 use Rattle.i_shape.specs.CanonicalShapes.{ShapeForm}
-use Rattle.i_shape.proofs.shapes.Forms.{canonical_has_shape}
+use Rattle.i_shape.proofs.Shapes.Forms.{canonical_has_shape}
 use Rattle.callers.specs.Polygons.{AreOwnForms}
 use Rattle.callers.proofs.StoredPolygons.{polygon_cmp, polygons_exact, key_listed, polygon_found, no_polygon_found}
 use Rattle.callers.proofs.polygons.PolygonStore.contains.Goals as goal

@@ -3,7 +3,7 @@ use Rattle.i_shape.specs.Point.{Point}
 use Rattle.i_shape.specs.Canonical.{CanonicalAnswer}
 use Rattle.i_shape.specs.ShapeLists.{shape_of, shapes_of}
 use Rattle.i_shape.specs.CanonicalShapes.{ShapeForm}
-use Rattle.i_shape.proofs.shapes.Forms.{canonical_has_shape}
+use Rattle.i_shape.proofs.Shapes.Forms.{canonical_has_shape}
 use Rattle.callers.specs.Polygons.{AreOwnForms}
 use Rattle.callers.proofs.StoredPolygons.{polygon_cmp, polygons_exact, key_listed, key_inserted, own_forms_more, was_there, was_missing, polygon_found, finds_polygon}
 use Rattle.callers.proofs.polygons.PolygonStore.insert.Goals as goal

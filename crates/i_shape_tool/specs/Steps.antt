@@ -1,0 +1,2 @@
+-- How a number is read, of which private functions alone speak.
+pub mod Numeral
