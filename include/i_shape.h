@@ -1,6 +1,6 @@
-/* i_shape: contours of whole-number points, cleaned and measured. Each call is proved to return and write what this
- * header says, except what it calls tested. I_SHAPE_NO_MEMORY and what takes memory are tested too, where no clause can
- * state them. docs/C.md names the clauses.
+/* i_shape: contours of whole-number points, cleaned and measured. In the library that the Rattle kit builds, each call
+ * is proved to return and write what this header says, except what it calls tested; in that of cargo all is tested.
+ * I_SHAPE_NO_MEMORY and what takes memory are tested too, where no clause can state them. docs/C.md names the clauses.
  *
  * Each call tests what it needs of points, offsets and counts, and returns a code if that isn't met. Nothing is kept
  * between calls. No call ends the program or makes a callback, except to an allocator that the host defines
@@ -10,7 +10,7 @@
  * count says; an array that a call writes overlaps no other, given or written; there is stack left. No array changes
  * during a call, by another thread or by a process that shares it. A call that takes memory is not made from a signal
  * handler, nor in a child that was forked from a process with threads. The processor is one that the library is built
- * for: that of a release runs on any, and by default `make c` builds for x86-64-v2, which has SSE4.2.
+ * for: those of a release and of cargo run on any; `make c` by the kit builds for x86-64-v2, which has SSE4.2.
  *
  * A contour is an array of points, read as a cycle: the last point isn't the first one again. A point is safe where
  * both coordinates lie strictly between -2^(W-2) and 2^(W-2), and W is 16, 32 or 64. */
@@ -59,6 +59,9 @@ ptrdiff_t i_shape_compact_shapes(const size_t *contours, size_t contour_offset_c
 
 /* What i_shape_winding_iW returns if a point isn't safe: below every winding number, which may be below 0 itself. */
 #define I_SHAPE_NO_WINDING PTRDIFF_MIN
+
+/* What i_shape_locate_in_shapes_iW writes for a point that no polygon holds: above every index. */
+#define I_SHAPE_NO_SHAPE SIZE_MAX
 
 /* The fill rules: which points contours fill, by the winding number of all contours together. */
 enum {
@@ -141,6 +144,17 @@ ptrdiff_t i_shape_canonical_shapes_i32(const i_shape_point_i32 *points, size_t c
 /* The same where a contour may be read backwards too: the lesser of the forms of both ways. */
 ptrdiff_t i_shape_canonical_unoriented_shapes_i32(const i_shape_point_i32 *points, size_t count, const size_t *contours, size_t contour_offset_count, const size_t *shapes, size_t shape_offset_count, i_shape_point_i32 *out_points, size_t room, size_t *out_contours, size_t contour_room, size_t *out_shapes, size_t shape_room);
 
+/* The canonical form of each polygon alone. The result lies in out_points and out_contours, from 0 on, and shapes[]
+ * divides its contours too: a contour that collapses is empty, and so stays in its polygon. The first contour of a
+ * polygon is the form of the first. The forms of the others, the holes, follow sorted: the empty ones first. Where the
+ * first contour is empty the polygon collapses; i_shape_compact_shapes returns what is left. Contours that no polygon has
+ * stay at their places. These return the number of points written. The codes are those of many contours, and
+ * I_SHAPE_BAD_OFFSETS also comes where the same is wrong of shapes[] over the contours. Where there is no contour, no
+ * memory is taken. */
+ptrdiff_t i_shape_canonical_polygons_i32(const i_shape_point_i32 *points, size_t count, const size_t *contours, size_t contour_offset_count, const size_t *shapes, size_t shape_offset_count, i_shape_point_i32 *out_points, size_t room, size_t *out_contours, size_t contour_room);
+/* The same where a contour may be read backwards too: the lesser of the forms of both ways. */
+ptrdiff_t i_shape_canonical_unoriented_polygons_i32(const i_shape_point_i32 *points, size_t count, const size_t *contours, size_t contour_offset_count, const size_t *shapes, size_t shape_offset_count, i_shape_point_i32 *out_points, size_t room, size_t *out_contours, size_t contour_room);
+
 /* Tests of a contour. These return 1 or 0, or I_SHAPE_UNSAFE, and take no memory. */
 
 /* At least three points, and no zero turn. */
@@ -185,10 +199,19 @@ int32_t i_shape_contains_points_i32(const i_shape_point_i32 *points, size_t coun
  * where the rule fills the point, and -1 where it doesn't. What it returns, and when, is as of i_shape_windings_i32. */
 int32_t i_shape_locate_i32(const i_shape_point_i32 *points, size_t count, const size_t *offsets, size_t offset_count, const i_shape_point_i32 *about, size_t about_count, int32_t rule, int8_t *out, size_t room);
 
+/* The first polygon that holds each of the points, into out: the least index of a polygon that the rule fills at the
+ * point, by the winding number of all of the polygon's contours together around it; or I_SHAPE_NO_SHAPE. The polygons
+ * are divided as for i_shape_simplify_shapes_i32. It returns 0. I_SHAPE_BAD_OFFSETS: contours[] or shapes[] are wrong as
+ * above, or there is no such rule. I_SHAPE_NO_ROOM: room is below about_count. I_SHAPE_UNSAFE: a point from the first
+ * offset to the last, or one of about, isn't safe. After a code, and behind about_count indices, out is as it was. It
+ * takes memory for a bounding box of each polygon; if that allocation fails, the indices are the same, and it takes
+ * longer. */
+int32_t i_shape_locate_in_shapes_i32(const i_shape_point_i32 *points, size_t count, const size_t *contours, size_t contour_offset_count, const size_t *shapes, size_t shape_offset_count, const i_shape_point_i32 *about, size_t about_count, int32_t rule, size_t *out, size_t room);
+
 /* Contacts. An edge leads from each point to the next one, the last edge of a contour to its first point. Two edges are
  * in contact if they share a point other than one at which one of them follows the other: they cross, touch or overlap.
- * These calls take memory if there are 16 or more points. If that allocation fails, they return the same, and take
- * longer. */
+ * The first three calls take memory if there are 16 or more points. If that allocation fails, they return the same, and
+ * take longer. */
 
 /* At least three points, not all equal, and no contact: the contour is the boundary of a simple polygon. It returns 1 or
  * 0, or I_SHAPE_UNSAFE. */
@@ -202,6 +225,17 @@ int32_t i_shape_first_contact_i32(const i_shape_point_i32 *points, size_t count,
  * points. I_SHAPE_BAD_OFFSETS: the offsets are wrong as above. I_SHAPE_UNSAFE: a point from the first offset to the last
  * isn't safe. If the first offset isn't 0, the offsets are copied; I_SHAPE_NO_MEMORY: that allocation failed. */
 int32_t i_shape_first_contact_of_rings_i32(const i_shape_point_i32 *points, size_t count, const size_t *offsets, size_t offset_count, size_t *out, size_t room);
+
+/* Two edges in contact: the places of the points from which they lead, the lesser first. */
+typedef struct { size_t first, second; } i_shape_contact;
+
+/* All contacts: by the place of the first edge, and those of one edge by that of the second. It writes as many as fit to
+ * the front of out, and returns how many there are, also if that is more than room. I_SHAPE_UNSAFE: a point isn't safe.
+ * After that, and behind the contacts, out is as it was. It tries all pairs of edges, and takes no memory. */
+ptrdiff_t i_shape_contacts_i32(const i_shape_point_i32 *points, size_t count, i_shape_contact *out, size_t room);
+/* The same of many contours together, with the offsets, places and codes of i_shape_first_contact_of_rings_i32, except
+ * I_SHAPE_NO_ROOM. */
+ptrdiff_t i_shape_contacts_of_rings_i32(const i_shape_point_i32 *points, size_t count, const size_t *offsets, size_t offset_count, i_shape_contact *out, size_t room);
 
 /* Validity of many polygons, divided as for i_shape_simplify_shapes_i32. A polygon is valid if each contour has at least
  * three points, not all equal, no two edges are in contact, and each vertex of a hole lies inside the outer contour and
@@ -265,6 +299,8 @@ ptrdiff_t i_shape_simplify_shapes_i16(const i_shape_point_i16 *points, size_t co
 ptrdiff_t i_shape_despike_shapes_i16(const i_shape_point_i16 *points, size_t count, const size_t *contours, size_t contour_offset_count, const size_t *shapes, size_t shape_offset_count, i_shape_point_i16 *out_points, size_t room, size_t *out_contours, size_t contour_room, size_t *out_shapes, size_t shape_room);
 ptrdiff_t i_shape_canonical_shapes_i16(const i_shape_point_i16 *points, size_t count, const size_t *contours, size_t contour_offset_count, const size_t *shapes, size_t shape_offset_count, i_shape_point_i16 *out_points, size_t room, size_t *out_contours, size_t contour_room, size_t *out_shapes, size_t shape_room);
 ptrdiff_t i_shape_canonical_unoriented_shapes_i16(const i_shape_point_i16 *points, size_t count, const size_t *contours, size_t contour_offset_count, const size_t *shapes, size_t shape_offset_count, i_shape_point_i16 *out_points, size_t room, size_t *out_contours, size_t contour_room, size_t *out_shapes, size_t shape_room);
+ptrdiff_t i_shape_canonical_polygons_i16(const i_shape_point_i16 *points, size_t count, const size_t *contours, size_t contour_offset_count, const size_t *shapes, size_t shape_offset_count, i_shape_point_i16 *out_points, size_t room, size_t *out_contours, size_t contour_room);
+ptrdiff_t i_shape_canonical_unoriented_polygons_i16(const i_shape_point_i16 *points, size_t count, const size_t *contours, size_t contour_offset_count, const size_t *shapes, size_t shape_offset_count, i_shape_point_i16 *out_points, size_t room, size_t *out_contours, size_t contour_room);
 int32_t i_shape_is_simple_i16(const i_shape_point_i16 *points, size_t count);
 int32_t i_shape_has_no_spikes_i16(const i_shape_point_i16 *points, size_t count);
 int32_t i_shape_is_convex_i16(const i_shape_point_i16 *points, size_t count);
@@ -276,9 +312,12 @@ int32_t i_shape_windings_i16(const i_shape_point_i16 *points, size_t count, cons
 int32_t i_shape_contains_by_i16(const i_shape_point_i16 *points, size_t count, int16_t x, int16_t y, int32_t rule);
 int32_t i_shape_contains_points_i16(const i_shape_point_i16 *points, size_t count, const size_t *offsets, size_t offset_count, const i_shape_point_i16 *about, size_t about_count, int32_t rule, uint8_t *out, size_t room);
 int32_t i_shape_locate_i16(const i_shape_point_i16 *points, size_t count, const size_t *offsets, size_t offset_count, const i_shape_point_i16 *about, size_t about_count, int32_t rule, int8_t *out, size_t room);
+int32_t i_shape_locate_in_shapes_i16(const i_shape_point_i16 *points, size_t count, const size_t *contours, size_t contour_offset_count, const size_t *shapes, size_t shape_offset_count, const i_shape_point_i16 *about, size_t about_count, int32_t rule, size_t *out, size_t room);
 int32_t i_shape_is_simple_polygon_i16(const i_shape_point_i16 *points, size_t count);
 int32_t i_shape_first_contact_i16(const i_shape_point_i16 *points, size_t count, size_t *out, size_t room);
 int32_t i_shape_first_contact_of_rings_i16(const i_shape_point_i16 *points, size_t count, const size_t *offsets, size_t offset_count, size_t *out, size_t room);
+ptrdiff_t i_shape_contacts_i16(const i_shape_point_i16 *points, size_t count, i_shape_contact *out, size_t room);
+ptrdiff_t i_shape_contacts_of_rings_i16(const i_shape_point_i16 *points, size_t count, const size_t *offsets, size_t offset_count, i_shape_contact *out, size_t room);
 int32_t i_shape_validity_shapes_i16(const i_shape_point_i16 *points, size_t count, const size_t *contours, size_t contour_offset_count, const size_t *shapes, size_t shape_offset_count, i_shape_fault *out, size_t room);
 bool i_shape_area_two_i16(const i_shape_point_i16 *points, size_t count, int32_t *area);
 int32_t i_shape_is_simple_contours_i16(const i_shape_point_i16 *points, size_t count, const size_t *offsets, size_t offset_count, uint8_t *out, size_t room);
@@ -301,6 +340,8 @@ ptrdiff_t i_shape_simplify_shapes_i64(const i_shape_point_i64 *points, size_t co
 ptrdiff_t i_shape_despike_shapes_i64(const i_shape_point_i64 *points, size_t count, const size_t *contours, size_t contour_offset_count, const size_t *shapes, size_t shape_offset_count, i_shape_point_i64 *out_points, size_t room, size_t *out_contours, size_t contour_room, size_t *out_shapes, size_t shape_room);
 ptrdiff_t i_shape_canonical_shapes_i64(const i_shape_point_i64 *points, size_t count, const size_t *contours, size_t contour_offset_count, const size_t *shapes, size_t shape_offset_count, i_shape_point_i64 *out_points, size_t room, size_t *out_contours, size_t contour_room, size_t *out_shapes, size_t shape_room);
 ptrdiff_t i_shape_canonical_unoriented_shapes_i64(const i_shape_point_i64 *points, size_t count, const size_t *contours, size_t contour_offset_count, const size_t *shapes, size_t shape_offset_count, i_shape_point_i64 *out_points, size_t room, size_t *out_contours, size_t contour_room, size_t *out_shapes, size_t shape_room);
+ptrdiff_t i_shape_canonical_polygons_i64(const i_shape_point_i64 *points, size_t count, const size_t *contours, size_t contour_offset_count, const size_t *shapes, size_t shape_offset_count, i_shape_point_i64 *out_points, size_t room, size_t *out_contours, size_t contour_room);
+ptrdiff_t i_shape_canonical_unoriented_polygons_i64(const i_shape_point_i64 *points, size_t count, const size_t *contours, size_t contour_offset_count, const size_t *shapes, size_t shape_offset_count, i_shape_point_i64 *out_points, size_t room, size_t *out_contours, size_t contour_room);
 int32_t i_shape_is_simple_i64(const i_shape_point_i64 *points, size_t count);
 int32_t i_shape_has_no_spikes_i64(const i_shape_point_i64 *points, size_t count);
 int32_t i_shape_is_convex_i64(const i_shape_point_i64 *points, size_t count);
@@ -312,9 +353,12 @@ int32_t i_shape_windings_i64(const i_shape_point_i64 *points, size_t count, cons
 int32_t i_shape_contains_by_i64(const i_shape_point_i64 *points, size_t count, int64_t x, int64_t y, int32_t rule);
 int32_t i_shape_contains_points_i64(const i_shape_point_i64 *points, size_t count, const size_t *offsets, size_t offset_count, const i_shape_point_i64 *about, size_t about_count, int32_t rule, uint8_t *out, size_t room);
 int32_t i_shape_locate_i64(const i_shape_point_i64 *points, size_t count, const size_t *offsets, size_t offset_count, const i_shape_point_i64 *about, size_t about_count, int32_t rule, int8_t *out, size_t room);
+int32_t i_shape_locate_in_shapes_i64(const i_shape_point_i64 *points, size_t count, const size_t *contours, size_t contour_offset_count, const size_t *shapes, size_t shape_offset_count, const i_shape_point_i64 *about, size_t about_count, int32_t rule, size_t *out, size_t room);
 int32_t i_shape_is_simple_polygon_i64(const i_shape_point_i64 *points, size_t count);
 int32_t i_shape_first_contact_i64(const i_shape_point_i64 *points, size_t count, size_t *out, size_t room);
 int32_t i_shape_first_contact_of_rings_i64(const i_shape_point_i64 *points, size_t count, const size_t *offsets, size_t offset_count, size_t *out, size_t room);
+ptrdiff_t i_shape_contacts_i64(const i_shape_point_i64 *points, size_t count, i_shape_contact *out, size_t room);
+ptrdiff_t i_shape_contacts_of_rings_i64(const i_shape_point_i64 *points, size_t count, const size_t *offsets, size_t offset_count, i_shape_contact *out, size_t room);
 int32_t i_shape_validity_shapes_i64(const i_shape_point_i64 *points, size_t count, const size_t *contours, size_t contour_offset_count, const size_t *shapes, size_t shape_offset_count, i_shape_fault *out, size_t room);
 bool i_shape_area_two_i64(const i_shape_point_i64 *points, size_t count, i_shape_halves *area);
 int32_t i_shape_is_simple_contours_i64(const i_shape_point_i64 *points, size_t count, const size_t *offsets, size_t offset_count, uint8_t *out, size_t room);

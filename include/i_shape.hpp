@@ -34,7 +34,7 @@ enum class Code : std::int32_t {
     unfit [[deprecated("its name is bad_offsets, and no_room is another code")]] = bad_offsets
 };
 
-/* The array of a call in which something is refused: points, points that are asked about, offsets of contours, offsets
+/* The array of a call that has the error: points, points that are asked about, offsets of contours, offsets
  * of polygons, the array of the answer; nothing where there is no memory. */
 enum class Array { none, points, about, offsets, shapes, out };
 
@@ -46,7 +46,7 @@ public:
         std::snprintf(what_, sizeof what_, place ? "i_shape: %s%s[%zu]" : "i_shape: %s%s", words_of(code), names[static_cast<int>(array)], place.value_or(0));
     }
 
-    /* The same with what is refused in words. */
+    /* The same with the fault in words. */
     Error(Code code, Array array, std::optional<std::size_t> place, std::optional<std::size_t> contour, const char *words) noexcept
         : code_(code), array_(array), place_(place), contour_(contour) {
         std::snprintf(what_, sizeof what_, "i_shape: %s: %s", words_of(code), words);
@@ -62,7 +62,7 @@ public:
     /* The contour that has that point. Nothing of a call on one contour, and of a point that is asked about. */
     std::optional<std::size_t> contour() const noexcept { return contour_; }
 
-    /* The same in words, with the value that is refused and its bound. */
+    /* The same in words, with the value at fault and its bound. */
     const char *what() const noexcept override { return what_; }
 
 private:
@@ -196,6 +196,7 @@ struct Fault {
 };
 
 static_assert(sizeof(Fault) == sizeof(i_shape_fault), "i_shape: a fault lies in memory as C's does");
+static_assert(sizeof(Contact) == sizeof(i_shape_contact), "i_shape: a contact lies in memory as C's does");
 
 namespace detail {
 
@@ -222,6 +223,8 @@ struct Calls {
         static constexpr auto despike_shapes = i_shape_despike_shapes_i##W; \
         static constexpr auto canonical_shapes = i_shape_canonical_shapes_i##W; \
         static constexpr auto canonical_unoriented_shapes = i_shape_canonical_unoriented_shapes_i##W; \
+        static constexpr auto canonical_polygons = i_shape_canonical_polygons_i##W; \
+        static constexpr auto canonical_unoriented_polygons = i_shape_canonical_unoriented_polygons_i##W; \
         static constexpr auto is_simple = i_shape_is_simple_i##W; \
         static constexpr auto has_no_spikes = i_shape_has_no_spikes_i##W; \
         static constexpr auto is_convex = i_shape_is_convex_i##W; \
@@ -232,9 +235,12 @@ struct Calls {
         static constexpr auto windings = i_shape_windings_i##W; \
         static constexpr auto contains_points = i_shape_contains_points_i##W; \
         static constexpr auto locate = i_shape_locate_i##W; \
+        static constexpr auto locate_in_shapes = i_shape_locate_in_shapes_i##W; \
         static constexpr auto is_simple_polygon = i_shape_is_simple_polygon_i##W; \
         static constexpr auto first_contact = i_shape_first_contact_i##W; \
         static constexpr auto first_contact_of_rings = i_shape_first_contact_of_rings_i##W; \
+        static constexpr auto contacts = i_shape_contacts_i##W; \
+        static constexpr auto contacts_of_rings = i_shape_contacts_of_rings_i##W; \
         static constexpr auto validity_shapes = i_shape_validity_shapes_i##W; \
         static constexpr auto area_two = i_shape_area_two_i##W; \
         static constexpr auto is_simple_contours = i_shape_is_simple_contours_i##W; \
@@ -326,7 +332,7 @@ std::optional<std::size_t> first_unsafe(const Points &points, std::size_t first,
 }
 
 /* The error of the first point from first on, and before end, that isn't safe; nothing where each is. The contour of a
- * place is what contour_of answers. */
+ * place is what contour_of returns. */
 template <class Points, class ContourOf>
 std::optional<Error> unsafe_point(Array array, const Points &points, std::size_t first, std::size_t end, ContourOf contour_of) noexcept {
     const auto place = first_unsafe(points, first, end);
@@ -363,7 +369,7 @@ inline std::optional<Error> bad_offsets(Array array, Offsets offsets, std::size_
 /* The error of an array of the answer that has not so much room. */
 inline Error no_room(std::size_t room, std::size_t needed) noexcept {
     char words[96];
-    std::snprintf(words, sizeof words, "out has room for %zu, and as many points as are given, %zu, are needed", room, needed);
+    std::snprintf(words, sizeof words, "out has room for %zu points, fewer than the %zu given", room, needed);
     return Error(Code::no_room, Array::out, std::nullopt, std::nullopt, words);
 }
 
@@ -458,12 +464,39 @@ Shapes<PointOf<Points>> clean_shapes(Call call, const Points &points, const Give
     return left;
 }
 
+/* All contacts that a call lists. It is called again where there are more than the points. */
+template <class Call, class Points, class... Given>
+std::vector<Contact> listed(Call call, const Points &points, const Given &...given) {
+    std::vector<Contact> contacts(std::size(points));
+    for (;;) {
+        const std::size_t room = contacts.size();
+        const std::size_t count = count_of(call(address<i_shape_contact>(contacts.data()), room), points, given...);
+        contacts.resize(count);
+        if (count <= room) return contacts;
+    }
+}
+
+/* The form of each polygon, whose contours the given offsets of polygons divide too. */
+template <class Points, class GivenContours, class GivenShapes, class Call>
+Contours<PointOf<Points>> form_polygons(Call call, const Points &points, const GivenContours &given_contours, const GivenShapes &given_shapes) {
+    const auto all_contours = as_offsets(given_contours);
+    const auto all_shapes = as_offsets(given_shapes);
+    const Offsets contours = all_contours, shapes = all_shapes;
+    Contours<PointOf<Points>> forms;
+    forms.points = room_for<PointOf<Points>>(std::size(points));
+    forms.offsets.resize(contours.size());
+    forms.points.resize(count_of(call(read(points), std::size(points), read_offsets(contours), contours.size(), read_offsets(shapes), shapes.size(),
+                                      write(forms.points), forms.points.size(), address<std::size_t>(forms.offsets.data()), forms.offsets.size()),
+                                 points, contours, shapes));
+    return forms;
+}
+
 template <class Points, class Call>
 bool test(Call call, const Points &points) {
     return count_of(call(read(points), std::size(points)), points) != 0;
 }
 
-/* An item of each contour, by a call that answers 0. */
+/* An item of each contour, by a call that returns 0. */
 template <class Item, class Points, class Given, class Call>
 std::vector<Item> measure_contours(Call call, const Points &points, const Given &given) {
     const auto all = as_offsets(given);
@@ -473,7 +506,7 @@ std::vector<Item> measure_contours(Call call, const Points &points, const Given 
     return items;
 }
 
-/* What is told of each of the points about by a rule. */
+/* What a call writes of each of the points about, by a rule. */
 template <class Item, class Call, class Points, class Given, class About>
 std::vector<Item> tell_points(Call call, const Points &points, const Given &given, const About &about, std::int32_t rule) {
     static_assert(std::is_same_v<PointOf<Points>, PointOf<About>>, "i_shape: the points of both are of one type");
@@ -592,6 +625,19 @@ Shapes<PointOf<Points>> canonical_unoriented_shapes(const Points &points, const 
     return detail::clean_shapes(detail::CallsOf<Points>::canonical_unoriented_shapes, points, contours, shapes);
 }
 
+/* The form of each polygon alone, its holes sorted: shapes divides the contours that are returned too, since those that
+ * collapse are empty. */
+
+template <class Points, class Offsets, class ShapeOffsets>
+Contours<PointOf<Points>> canonical_polygons(const Points &points, const Offsets &contours, const ShapeOffsets &shapes) {
+    return detail::form_polygons(detail::CallsOf<Points>::canonical_polygons, points, contours, shapes);
+}
+
+template <class Points, class Offsets, class ShapeOffsets>
+Contours<PointOf<Points>> canonical_unoriented_polygons(const Points &points, const Offsets &contours, const ShapeOffsets &shapes) {
+    return detail::form_polygons(detail::CallsOf<Points>::canonical_unoriented_polygons, points, contours, shapes);
+}
+
 /* What is said of these calls without offsets. */
 #define I_SHAPE_TAKES_OFFSETS(CALL) \
     template <class Points> \
@@ -607,6 +653,8 @@ I_SHAPE_TAKES_OFFSETS(simplify_shapes)
 I_SHAPE_TAKES_OFFSETS(remove_spikes)
 I_SHAPE_TAKES_OFFSETS(canonical_shapes)
 I_SHAPE_TAKES_OFFSETS(canonical_unoriented_shapes)
+I_SHAPE_TAKES_OFFSETS(canonical_polygons)
+I_SHAPE_TAKES_OFFSETS(canonical_unoriented_polygons)
 
 #undef I_SHAPE_TAKES_OFFSETS
 
@@ -685,6 +733,9 @@ enum class FillRule : std::int32_t {
     negative = I_SHAPE_NEGATIVE,
 };
 
+/* What locate_in_shapes returns for a point that no polygon holds: above every index. */
+inline constexpr std::size_t no_shape = I_SHAPE_NO_SHAPE;
+
 /* Whether the rule fills a point, by how often a contour winds about it. It throws as winding does. */
 template <class Points>
 bool contains(const Points &points, const PointOf<Points> &about, FillRule rule = FillRule::even_odd) {
@@ -731,6 +782,25 @@ std::vector<std::int8_t> locate(const Points &points, const Offsets &offsets, co
     return detail::tell_points<std::int8_t>(detail::CallsOf<Points>::locate, points, offsets, about, static_cast<std::int32_t>(rule));
 }
 
+/* The index of the first of many polygons, which lie as in Shapes, that holds each of the points about: which the rule
+ * fills there, by how often the polygon's contours together wind about it; or no_shape. It throws Code::bad_offsets
+ * where the offsets don't divide the points or the contours, and Code::unsafe where a point isn't safe. */
+template <class Points, class GivenContours, class GivenShapes, class About>
+std::vector<std::size_t> locate_in_shapes(const Points &points, const GivenContours &given_contours, const GivenShapes &given_shapes, const About &about,
+                                          FillRule rule) {
+    static_assert(std::is_same_v<PointOf<Points>, PointOf<About>>, "i_shape: the points of both are of one type");
+    const auto all_contours = detail::as_offsets(given_contours);
+    const auto all_shapes = detail::as_offsets(given_shapes);
+    const detail::Offsets contours = all_contours, shapes = all_shapes;
+    std::vector<std::size_t> holders(std::size(about));
+    const std::int32_t answer = detail::CallsOf<Points>::locate_in_shapes(
+        detail::read(points), std::size(points), detail::read_offsets(contours), contours.size(), detail::read_offsets(shapes), shapes.size(),
+        detail::read(about), std::size(about), static_cast<std::int32_t>(rule), detail::address<std::size_t>(holders.data()), holders.size());
+    if (answer == I_SHAPE_UNSAFE) detail::check_asked(about);
+    detail::count_of(answer, points, contours, shapes);
+    return holders;
+}
+
 /* Whether a contour is the boundary of a simple polygon: at least three points, not all equal, and no contact. It throws
  * Code::unsafe where a point isn't safe. */
 template <class Points>
@@ -758,6 +828,27 @@ std::optional<Contact> first_contact_of_rings(const Points &points, const Offset
         detail::CallsOf<Points>::first_contact_of_rings(detail::read(points), std::size(points), detail::read_offsets(all), all.size(), places, 2);
     if (detail::count_of(answer, points, detail::Offsets(all)) == 0) return std::nullopt;
     return Contact{places[0], places[1]};
+}
+
+/* All contacts of a contour, by the first edge and then by the second, in time quadratic in the points. It throws
+ * Code::unsafe where a point isn't safe. */
+template <class Points>
+std::vector<Contact> contacts(const Points &points) {
+    return detail::listed(
+        [&](i_shape_contact *out, std::size_t room) { return detail::CallsOf<Points>::contacts(detail::read(points), std::size(points), out, room); },
+        points);
+}
+
+/* The same of many contours together, within one or between two. The places are those in points. It throws as
+ * first_contact_of_rings does. */
+template <class Points, class Offsets>
+std::vector<Contact> contacts_of_rings(const Points &points, const Offsets &offsets) {
+    const auto all = detail::as_offsets(offsets);
+    return detail::listed(
+        [&](i_shape_contact *out, std::size_t room) {
+            return detail::CallsOf<Points>::contacts_of_rings(detail::read(points), std::size(points), detail::read_offsets(all), all.size(), out, room);
+        },
+        points, detail::Offsets(all));
 }
 
 /* The first fault of each of many polygons, which lie as in Shapes. It throws Code::bad_offsets where the offsets don't

@@ -1,4 +1,4 @@
-/* The three functions of docs/C.md, "Your own allocator", over malloc: for a processor whose own the Rattle kit doesn't have. No
+/* The three functions of docs/C.md, "Your own allocator", over malloc: for processors for which the Rattle kit has none. No
  * proof covers them. An align divides 16, to which malloc aligns too. */
 #include "allocator.h"
 

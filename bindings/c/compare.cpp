@@ -113,7 +113,7 @@ private:
     using Areas = std::int32_t(const Point *, std::size_t, const std::size_t *, std::size_t, Area *, std::size_t);
     using AreaTwo = bool(const Point *, std::size_t, Area *);
 
-    /* What a call answers and writes. */
+    /* What a call returns and writes. */
     struct Output {
         std::ptrdiff_t answer;
         Area area;

@@ -2,6 +2,7 @@
 enum { MOST = 8, CLEANERS = 4 };
 
 static const char *const cleaner_names[CLEANERS] = {"simplify", "despike", "canonical", "canonical_unoriented"};
+static const char *const form_names[2] = {"canonical_polygons", "canonical_unoriented_polygons"};
 
 /* Whether the cleaner gives a canonical form. */
 static inline int is_form(int cleaner) {
@@ -64,7 +65,7 @@ enum { TESTS = 5 };
 
 static const char *const test_names[TESTS] = {"is_simple", "has_no_spikes", "is_convex", "is_simple_polygon", "is_safe"};
 
-/* What the test tells of the row. */
+/* What the test returns of the row. */
 static inline int told(const struct row *row, int test) {
     const int answers[TESTS] = {row->is_simple, row->has_no_spikes, row->is_convex, row->is_simple_polygon, 1};
     return answers[test];

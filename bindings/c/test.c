@@ -1,4 +1,4 @@
-/* Tests of the C library: worked contours by each call and width, each code, each growth of memory refused in turn, and four threads.
+/* Tests of the C library: worked contours by each call and width, each code, each growth of memory failing in turn, and four threads.
  * It is C11 and C++17. The allocator is this program's own, in place of the archive's. */
 #define _DEFAULT_SOURCE /* for MAP_ANONYMOUS */
 #include "i_shape.h"
@@ -36,9 +36,9 @@ static int is_filled(const void *at, size_t size) {
 }
 
 #if defined OWN_ALLOCATOR || defined WRAPPED_MALLOC
-#define REFUSES
-/* The growth of this number is refused; none at 0. asked: how many bytes all growths so far have asked for. */
-static size_t refused, growths, blocks, asked;
+#define FAILS_GROWTHS
+/* The growth of this number fails; none at 0. asked: how many bytes all growths so far have asked for. */
+static size_t failing, growths, blocks, asked;
 #endif
 
 #ifdef OWN_ALLOCATOR
@@ -46,14 +46,14 @@ static size_t refused, growths, blocks, asked;
 
 struct tried rattle_alloc(size_t size, size_t align) {
     asked += size;
-    void *at = ++growths == refused ? NULL : malloc(size ? size : align);
+    void *at = ++growths == failing ? NULL : malloc(size ? size : align);
     if (at) blocks++;
     return tried(at);
 }
 
 struct tried rattle_realloc(void *before, size_t kept, size_t size, size_t align) {
     asked += size - kept;
-    return tried(++growths == refused ? NULL : realloc(before, size ? size : align));
+    return tried(++growths == failing ? NULL : realloc(before, size ? size : align));
 }
 
 void rattle_dealloc(void *at) {
@@ -73,14 +73,14 @@ void __wrap_free(void *at);
 
 void *__wrap_malloc(size_t size) {
     asked += size;
-    void *at = ++growths == refused ? NULL : __real_malloc(size);
+    void *at = ++growths == failing ? NULL : __real_malloc(size);
     if (at) blocks++;
     return at;
 }
 
 void *__wrap_realloc(void *at, size_t size) {
     asked += size;
-    return ++growths == refused ? NULL : __real_realloc(at, size);
+    return ++growths == failing ? NULL : __real_realloc(at, size);
 }
 
 void __wrap_free(void *at) {
@@ -89,25 +89,25 @@ void __wrap_free(void *at) {
 }
 #endif
 
-#ifdef REFUSES
+#ifdef FAILS_GROWTHS
 enum { MOST_GROWTHS = 32 };
 
-#define WITH_EACH_GROWTH_REFUSED(CALLED, IS_KEPT, GROWS, WIDTH, NAME) \
+#define WITH_EACH_GROWTH_FAILED(CALLED, IS_KEPT, GROWS, WIDTH, NAME) \
     do { \
         long long answer = I_SHAPE_NO_MEMORY; \
-        for (refused = 1; answer == I_SHAPE_NO_MEMORY && refused <= MOST_GROWTHS; refused++) { \
+        for (failing = 1; answer == I_SHAPE_NO_MEMORY && failing <= MOST_GROWTHS; failing++) { \
             growths = 0; \
             answer = (CALLED); \
             check(blocks == 0, WIDTH, NAME, "a block is lost"); \
-            check(answer != I_SHAPE_NO_MEMORY || (IS_KEPT), WIDTH, NAME, "what a refusal leaves"); \
-            check((answer == I_SHAPE_NO_MEMORY) == (growths >= refused), WIDTH, NAME, "a refusal is told"); \
+            check(answer != I_SHAPE_NO_MEMORY || (IS_KEPT), WIDTH, NAME, "what a failed growth leaves"); \
+            check((answer == I_SHAPE_NO_MEMORY) == (growths >= failing), WIDTH, NAME, "a failed growth is reported"); \
         } \
-        check(answer >= 0, WIDTH, NAME, "it is done where no growth is refused"); \
+        check(answer >= 0, WIDTH, NAME, "it is done where no growth fails"); \
         check(GROWS, WIDTH, NAME, "how often memory is taken"); \
-        refused = 0; \
+        failing = 0; \
     } while (0)
 #else
-#define WITH_EACH_GROWTH_REFUSED(CALLED, IS_KEPT, GROWS, WIDTH, NAME) check((CALLED) >= 0, WIDTH, NAME, "it is done")
+#define WITH_EACH_GROWTH_FAILED(CALLED, IS_KEPT, GROWS, WIDTH, NAME) check((CALLED) >= 0, WIDTH, NAME, "it is done")
 #endif
 
 #include "rows.h"
@@ -144,7 +144,7 @@ static void test_compact(void) {
     static const size_t left_contours[3] = {0, 2, 6}, left_shapes[3] = {0, 2, 4}, left_offsets[4] = {0, 2, 2, 3};
     static const size_t falling[2] = {1, 0}, beyond[2] = {0, 8};
     size_t out_contours[7], out_shapes[5], out_offsets[6];
-    const struct { const size_t *contours, *shapes; size_t contour_count, shape_count, contour_room, shape_room, offset_room; ptrdiff_t code; const char *what; } refused_calls[] = {
+    const struct { const size_t *contours, *shapes; size_t contour_count, shape_count, contour_room, shape_room, offset_room; ptrdiff_t code; const char *what; } wrong_calls[] = {
         {contours, shapes, 0, 6, 7, 5, 6, I_SHAPE_BAD_OFFSETS, "no offset of contours"},
         {contours, shapes, 8, 0, 7, 5, 6, I_SHAPE_BAD_OFFSETS, "no offset of polygons"},
         {falling, shapes, 2, 1, 7, 5, 6, I_SHAPE_BAD_OFFSETS, "contours that run backwards"},
@@ -158,10 +158,10 @@ static void test_compact(void) {
     fill(out_contours, sizeof out_contours);
     fill(out_shapes, sizeof out_shapes);
     fill(out_offsets, sizeof out_offsets);
-    for (size_t k = 0; k < sizeof refused_calls / sizeof *refused_calls; k++) {
-        const ptrdiff_t code = i_shape_compact_shapes(refused_calls[k].contours, refused_calls[k].contour_count, refused_calls[k].shapes, refused_calls[k].shape_count,
-                                                      out_contours, refused_calls[k].contour_room, out_shapes, refused_calls[k].shape_room, out_offsets, refused_calls[k].offset_room);
-        check(code == refused_calls[k].code, 0, "compact", refused_calls[k].what);
+    for (size_t k = 0; k < sizeof wrong_calls / sizeof *wrong_calls; k++) {
+        const ptrdiff_t code = i_shape_compact_shapes(wrong_calls[k].contours, wrong_calls[k].contour_count, wrong_calls[k].shapes, wrong_calls[k].shape_count,
+                                                      out_contours, wrong_calls[k].contour_room, out_shapes, wrong_calls[k].shape_room, out_offsets, wrong_calls[k].offset_room);
+        check(code == wrong_calls[k].code, 0, "compact", wrong_calls[k].what);
         check(is_filled(out_contours, sizeof out_contours) && is_filled(out_shapes, sizeof out_shapes) && is_filled(out_offsets, sizeof out_offsets), 0, "compact", "what a code leaves");
     }
     check(i_shape_compact_shapes(contours, 8, shapes, 6, out_contours, 7, out_shapes, 5, out_offsets, 6) == 3, 0, "compact", "how many are left");
@@ -214,7 +214,7 @@ static void test_halves(void) {
     }
 }
 
-#ifndef REFUSES
+#ifndef FAILS_GROWTHS
 enum { THREADS = 4, POINTS = 20000, TURNS = 20 };
 
 static i_shape_point_i32 shared[POINTS], expected[POINTS], answers[THREADS][POINTS];

@@ -27,7 +27,7 @@ struct tried {
     void *at;
 };
 
-static bool is_refused;
+static bool has_no_memory;
 static char nothing;
 
 extern "C" {
@@ -36,12 +36,12 @@ tried rattle_realloc(void *at, std::size_t kept, std::size_t size, std::size_t a
 void rattle_dealloc(void *at);
 
 tried rattle_alloc(std::size_t size, std::size_t align) {
-    void *at = is_refused ? nullptr : std::malloc(size != 0 ? size : align);
+    void *at = has_no_memory ? nullptr : std::malloc(size != 0 ? size : align);
     return {at != nullptr, at != nullptr ? at : &nothing};
 }
 
 tried rattle_realloc(void *before, std::size_t, std::size_t size, std::size_t align) {
-    void *at = is_refused ? nullptr : std::realloc(before, size != 0 ? size : align);
+    void *at = has_no_memory ? nullptr : std::realloc(before, size != 0 ? size : align);
     return {at != nullptr, at != nullptr ? at : &nothing};
 }
 
@@ -189,6 +189,7 @@ public:
         run_some();
         test_kinds_of_arrays();
         test_shapes();
+        test_forms();
         test_compact();
         test_chunks();
         test_area();
@@ -206,6 +207,7 @@ public:
         test_measures();
         test_contacts();
         test_validity();
+        test_holders();
         test_tests();
         test_windings();
     }
@@ -361,7 +363,25 @@ private:
         check(i_shape::nested(i_shape::simplify_shapes(none.points, none.contours, none.shapes)).empty(), "simplify_shapes", "no polygon");
     }
 
-    /* The same polygons, whose contours are cleaned before. */
+    /* A square with three holes, of which one collapses, and a triangle. */
+    void test_forms() const {
+        const Contour outer = {point(10, 0), point(10, 10), point(0, 10), point(0, 0), point(5, 0)};
+        const Contour inner = {point(8, 6), point(6, 6), point(6, 8), point(7, 7)}, other = {point(2, 4), point(4, 2), point(2, 2)};
+        const Contour line = {point(1, 1), point(2, 2), point(3, 3)}, triangle = {point(0, -4), point(4, 0), point(-4, 0)};
+        const i_shape::Shapes<Point> all = i_shape::flat(std::vector<std::vector<Contour>>{{outer, inner, line, other}, {triangle}});
+        const std::vector<Contour> forms = i_shape::nested(i_shape::canonical_polygons(all.points, all.contours, all.shapes));
+        const std::vector<Contour> unoriented = i_shape::nested(i_shape::canonical_unoriented_polygons(all.points, all.contours, all.shapes));
+        check(forms.size() == 5 && unoriented.size() == 5, "canonical_polygons", "how many contours");
+        check(are_equal(forms[0], {point(0, 0), point(10, 0), point(10, 10), point(0, 10)}), "canonical_polygons", "an outer contour");
+        check(are_equal(unoriented[0], {point(0, 0), point(0, 10), point(10, 10), point(10, 0)}), "canonical_unoriented_polygons", "an outer contour");
+        check(forms[1].empty() && unoriented[1].empty(), "canonical_polygons", "a hole that collapses");
+        check(are_equal(forms[2], {point(2, 2), point(2, 4), point(4, 2)}) && are_equal(unoriented[2], forms[2]), "canonical_polygons", "the lesser hole");
+        check(are_equal(forms[3], {point(6, 6), point(6, 8), point(8, 6)}) && are_equal(unoriented[3], forms[3]), "canonical_polygons", "the greater hole");
+        check(are_equal(forms[4], {point(-4, 0), point(0, -4), point(4, 0)}) && are_equal(unoriented[4], forms[4]), "canonical_polygons", "another polygon");
+        names(i_shape::Array::shapes, 1, [&] { i_shape::canonical_polygons(all.points, all.contours, std::vector<std::uint16_t>{0, 6}); });
+    }
+
+    /* The polygons of test_shapes, whose contours are cleaned before. */
     void test_compact() const {
         const std::vector<std::size_t> contours = {0, 4, 7, 7, 10, 10, 13, 16}, none;
         const std::vector<std::uint16_t> shapes = {0, 4, 6, 6, 7};
@@ -421,6 +441,16 @@ private:
         check(i_shape::locate(given, offsets, about, FillRule::even_odd) == std::vector<std::int8_t>{-1, 0, 0}, "locate", "two contours");
     }
 
+    /* Two squares that overlap, and an empty polygon before them. */
+    void test_holders() const {
+        const Contour other = {point(2, 2), point(9, 2), point(9, 9), point(2, 9)}, about = {point(1, 1), point(3, 3), point(6, 6), point(10, 1)};
+        const auto all = i_shape::flat(std::vector<std::vector<Contour>>{{}, {square()}, {other}});
+        using i_shape::FillRule, i_shape::no_shape;
+        check(i_shape::locate_in_shapes(all.points, all.contours, all.shapes, about, FillRule::nonzero) == std::vector<std::size_t>{1, 1, 2, no_shape}, "locate_in_shapes", "two squares");
+        check(i_shape::locate_in_shapes(all.points, std::array<std::uint32_t, 1>{7}, std::array<std::uint16_t, 1>{0}, about, FillRule::even_odd) == std::vector<std::size_t>(4, no_shape),
+              "locate_in_shapes", "no polygon, by other offsets");
+    }
+
     static bool is_area(std::int32_t area, std::int64_t wanted) { return area == wanted; }
     static bool is_area(std::int64_t area, std::int64_t wanted) { return area == wanted; }
     static bool is_area(i_shape_halves area, std::int64_t wanted) {
@@ -448,6 +478,16 @@ private:
         check(is_contact(i_shape::first_contact_of_rings(all.points, all.offsets), 0, 2), "first_contact_of_rings", "within a contour");
         check(is_contact(i_shape::first_contact_of_rings(all.points, last), 4, 7), "first_contact_of_rings", "between two contours");
         check(!i_shape::first_contact_of_rings(all.points, std::array<std::uint32_t, 2>{4, 7}), "first_contact_of_rings", "one contour, by other offsets");
+        const auto is_one = [](const std::vector<i_shape::Contact> &found, std::size_t first, std::size_t second) {
+            return found.size() == 1 && found[0].first == first && found[0].second == second;
+        };
+        check(is_one(i_shape::contacts(bow_tie), 0, 2), "contacts", "a bow tie");
+        check(i_shape::contacts(triangle).empty() && i_shape::contacts(Contour()).empty(), "contacts", "a triangle, and no point");
+        const auto between = i_shape::contacts_of_rings(all.points, last);
+        check(between.size() == 2 && between[1].first == 4 && between[1].second == 9, "contacts_of_rings", "between two contours");
+        check(is_one(i_shape::contacts_of_rings(all.points, std::array<std::uint32_t, 2>{0, 4}), 0, 2), "contacts_of_rings", "one contour, by other offsets");
+        const auto many = i_shape::contacts(Contour(9, point(0, 0)));
+        check(many.size() == 27 && many[26].first == 6 && many[26].second == 8, "contacts", "more than points");
     }
 
     /* A polygon of each kind: a bow tie with a line of two points for a hole, a hole that touches the outer contour, one outside it and one in another; and an
@@ -480,14 +520,20 @@ private:
         throws(Code::unsafe, "first_contact", "a point that isn't safe", [&] { i_shape::first_contact(unsafe); });
         throws(Code::unsafe, "first_contact_of_rings", "a point that isn't safe", [&] { i_shape::first_contact_of_rings(unsafe, whole); });
         throws(Code::bad_offsets, "first_contact_of_rings", "no offset", [&] { i_shape::first_contact_of_rings(square(), none); });
+        throws(Code::unsafe, "contacts", "a point that isn't safe", [&] { i_shape::contacts(unsafe); });
+        throws(Code::unsafe, "contacts_of_rings", "a point that isn't safe", [&] { i_shape::contacts_of_rings(unsafe, whole); });
+        throws(Code::bad_offsets, "contacts_of_rings", "no offset", [&] { i_shape::contacts_of_rings(square(), none); });
         throws(Code::unsafe, "are_simple_polygons", "a point that isn't safe", [&] { i_shape::are_simple_polygons(unsafe, whole); });
         throws(Code::bad_offsets, "are_simple_polygons", "no offset", [&] { i_shape::are_simple_polygons(square(), none); });
         throws(Code::unsafe, "validity", "a point that isn't safe", [&] { i_shape::validity(unsafe, whole, one); });
         throws(Code::bad_offsets, "validity", "no offset", [&] { i_shape::validity(square(), none, one); });
         throws(Code::bad_offsets, "validity", "no offset of polygons", [&] { i_shape::validity(square(), whole, none); });
-        is_refused = true;
-        throws(Code::no_memory, "validity", "refused memory", [&] { i_shape::validity(square(), whole, one); });
-        is_refused = false;
+        has_no_memory = true;
+        throws(Code::no_memory, "validity", "no memory", [&] { i_shape::validity(square(), whole, one); });
+        has_no_memory = false;
+        throws(Code::unsafe, "locate_in_shapes", "a point that isn't safe", [&] { i_shape::locate_in_shapes(square(), whole, one, unsafe, i_shape::FillRule::nonzero); });
+        throws(Code::unsafe, "locate_in_shapes", "a vertex that isn't safe", [&] { i_shape::locate_in_shapes(unsafe, whole, one, square(), i_shape::FillRule::nonzero); });
+        throws(Code::bad_offsets, "locate_in_shapes", "no offset of polygons", [&] { i_shape::locate_in_shapes(square(), whole, none, square(), i_shape::FillRule::nonzero); });
         throws(Code::unsafe, "contains", "a vertex that isn't safe", [&] { i_shape::contains(unsafe, point(1, 1)); });
         throws(Code::unsafe, "contains", "a point that isn't safe", [&] { i_shape::contains(square(), point(least_unsafe, 1)); });
         throws(Code::unsafe, "winding", "a point that isn't safe", [&] { i_shape::winding(square(), point(least_unsafe, 1)); });
@@ -522,16 +568,16 @@ private:
         throws(Code::bad_offsets, name, "an offset out of the points", [&] { clean_contours(given, outside); });
         throws(Code::bad_offsets, name, "no offset of polygons", [&] { clean_shapes(given, whole, none); });
         throws(Code::bad_offsets, name, "a contour out of the points", [&] { clean_shapes(given, outside, polygon); });
-        is_refused = true;
-        throws(Code::no_memory, name, "refused memory", [&] { clean(given); });
-        throws(Code::no_memory, name, "refused memory, into", [&] { into(given, out); });
-        throws(Code::no_memory, name, "refused memory, of contours", [&] { clean_contours(given, whole); });
-        throws(Code::no_memory, name, "refused memory, of polygons", [&] { clean_shapes(given, whole, polygon); });
-        is_refused = false;
+        has_no_memory = true;
+        throws(Code::no_memory, name, "no memory", [&] { clean(given); });
+        throws(Code::no_memory, name, "no memory, into", [&] { into(given, out); });
+        throws(Code::no_memory, name, "no memory, of contours", [&] { clean_contours(given, whole); });
+        throws(Code::no_memory, name, "no memory, of polygons", [&] { clean_shapes(given, whole, polygon); });
+        has_no_memory = false;
         check(are_equal(out, before), name, "what a code leaves");
     }
 
-    /* An error names what is refused. */
+    /* An error names what is at fault. */
     void test_places() const {
         using i_shape::Array;
         using Offsets = std::vector<std::uint16_t>;
@@ -562,7 +608,7 @@ private:
         says(std::nullopt, "shapes[1] is 2, above the count, 1", [&] { i_shape::canonical_shapes(square(), whole, first); });
         says(std::nullopt, "there are no offsets", [&] { i_shape::simplify_contours(square(), none); });
         says(std::nullopt, "there are no shapes", [&] { i_shape::canonical_shapes(square(), whole, none); });
-        says(std::nullopt, "out has room for 3, and as many points as are given, 4, are needed", [&] { i_shape::despike_into(square(), i_shape::Span<Point>(unsafe.data(), 3)); });
+        says(std::nullopt, "out has room for 3 points, fewer than the 4 given", [&] { i_shape::despike_into(square(), i_shape::Span<Point>(unsafe.data(), 3)); });
         check(i_shape::simplify_contours(square(), whole).points.size() == 4, "simplify_contours", "offsets of 16 bits");
     }
 

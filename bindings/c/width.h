@@ -17,6 +17,10 @@ static AT(clean_many) const AT(batches)[] = {CALL(simplify_contours), CALL(despi
                                             CALL(canonical_unoriented_contours)};
 static AT(clean_shapes) const AT(polygons)[] = {CALL(simplify_shapes), CALL(despike_shapes), CALL(canonical_shapes), CALL(canonical_unoriented_shapes)};
 
+typedef ptrdiff_t (*AT(form_each))(const POINT *, size_t, const size_t *, size_t, const size_t *, size_t, POINT *, size_t, size_t *, size_t);
+
+static AT(form_each) const AT(forms)[] = {CALL(canonical_polygons), CALL(canonical_unoriented_polygons)};
+
 typedef int32_t (*AT(test_many))(const POINT *, size_t, const size_t *, size_t, uint8_t *, size_t);
 
 static AT(test_many) const AT(tests)[] = {CALL(is_simple_contours), CALL(has_no_spikes_contours), CALL(is_convex_contours), CALL(are_simple_polygons),
@@ -176,12 +180,66 @@ static void AT(test_shapes_codes)(void) {
         given[5].y = 4;
         /* Two polygons of a clean contour each: for a canonical form the points and offsets of what is left, two lists of its contours and
            one of its polygons, and two lists to sort these. */
-        WITH_EACH_GROWTH_REFUSED(CLEAN(contours, 3, halves, 3, 6, 3, 3), IS_UNTOUCHED, growths == (is_form(k) ? 8 : 0), W, name);
+        WITH_EACH_GROWTH_FAILED(CLEAN(contours, 3, halves, 3, 6, 3, 3), IS_UNTOUCHED, growths == (is_form(k) ? 8 : 0), W, name);
         /* Of no polygon, and of polygons without a contour, no memory is taken. */
-        WITH_EACH_GROWTH_REFUSED(CLEAN(contours, 3, none, 1, 6, 3, 3), 1, growths == 0, W, name);
-        WITH_EACH_GROWTH_REFUSED(CLEAN(contours, 3, hollow, 3, 6, 3, 3), 1, growths == 0, W, name);
+        WITH_EACH_GROWTH_FAILED(CLEAN(contours, 3, none, 1, 6, 3, 3), 1, growths == 0, W, name);
+        WITH_EACH_GROWTH_FAILED(CLEAN(contours, 3, hollow, 3, 6, 3, 3), 1, growths == 0, W, name);
 #undef IS_UNTOUCHED
 #undef CLEAN
+    }
+}
+
+/* The polygons of test_shapes, each alone: the contours that collapse are empty, and the first of the holes. */
+static void AT(test_forms)(void) {
+    const POINT given[24] = {{10, 0}, {10, 10}, {0, 10}, {0, 0}, {5, 0}, {8, 6}, {6, 6}, {6, 8}, {7, 7}, {1, 1}, {2, 2}, {3, 3},
+                             {2, 4}, {4, 2}, {2, 2}, {1, 1}, {2, 2}, {3, 3}, {2, 4}, {4, 2}, {2, 2}, {0, -4}, {4, 0}, {-4, 0}};
+    const size_t contours[8] = {0, 5, 9, 12, 15, 18, 21, 24}, shapes[5] = {0, 4, 6, 6, 7}, none[1] = {2};
+    const size_t left_contours[8] = {0, 4, 4, 7, 10, 10, 13, 16};
+    const int left[2][16][2] = {
+        {{0, 0}, {10, 0}, {10, 10}, {0, 10}, {2, 2}, {2, 4}, {4, 2}, {6, 6}, {6, 8}, {8, 6}, {2, 2}, {2, 4}, {4, 2}, {-4, 0}, {0, -4}, {4, 0}},
+        {{0, 0}, {0, 10}, {10, 10}, {10, 0}, {2, 2}, {2, 4}, {4, 2}, {6, 6}, {6, 8}, {8, 6}, {2, 2}, {2, 4}, {4, 2}, {-4, 0}, {0, -4}, {4, 0}}};
+    for (int k = 0; k < 2; k++) {
+        POINT out[25];
+        size_t out_contours[9];
+        fill(out, sizeof out);
+        fill(out_contours, sizeof out_contours);
+        check(AT(forms)[k](given, 24, contours, 8, shapes, 5, out, 25, out_contours, 9) == 16, W, form_names[k], "how many points");
+        check(AT(is_answer)(out, left[k], 16, 25), W, form_names[k], "points");
+        check(memcmp(out_contours, left_contours, sizeof left_contours) == 0 && is_filled(out_contours + 8, sizeof *out_contours), W, form_names[k], "contours");
+        /* Contours that no polygon has are not sorted. */
+        const size_t unsorted[8] = {0, 4, 7, 7, 10, 10, 13, 16};
+        check(AT(forms)[k](given, 24, contours, 8, none, 1, out, 24, out_contours, 8) == 16 && memcmp(out_contours, unsorted, sizeof unsorted) == 0
+                  && out[4].x == 6 && out[7].x == 2, W, form_names[k], "no polygon");
+    }
+}
+
+static void AT(test_forms_codes)(void) {
+    const size_t contours[3] = {0, 3, 6}, outside[2] = {0, 7}, shapes[2] = {0, 2}, backwards[3] = {0, 2, 1}, beyond[2] = {0, 3}, none[1] = {0};
+    for (int k = 0; k < 2; k++) {
+        POINT given[6] = {{0, 0}, {2, 0}, {0, 4}, {0, 0}, {4, 0}, {0, 4}}, out[6];
+        size_t out_contours[3];
+        const char *name = form_names[k];
+        fill(out, sizeof out);
+        fill(out_contours, sizeof out_contours);
+#define FORM(CONTOURS, CONTOUR_OFFSETS, SHAPES, SHAPE_OFFSETS, ROOM, CONTOUR_ROOM) \
+    AT(forms)[k](given, 6, CONTOURS, CONTOUR_OFFSETS, SHAPES, SHAPE_OFFSETS, out, ROOM, out_contours, CONTOUR_ROOM)
+#define IS_UNTOUCHED (is_filled(out, sizeof out) && is_filled(out_contours, sizeof out_contours))
+        check(FORM(contours, 0, shapes, 2, 6, 3) == I_SHAPE_BAD_OFFSETS, W, name, "no offset of contours");
+        check(FORM(contours, 3, shapes, 0, 6, 3) == I_SHAPE_BAD_OFFSETS, W, name, "no offset of polygons");
+        check(FORM(outside, 2, shapes, 2, 6, 3) == I_SHAPE_BAD_OFFSETS, W, name, "a contour out of the points");
+        check(FORM(contours, 3, beyond, 2, 6, 3) == I_SHAPE_BAD_OFFSETS, W, name, "a polygon out of the contours");
+        check(FORM(contours, 3, backwards, 3, 6, 3) == I_SHAPE_BAD_OFFSETS, W, name, "polygons that run backwards");
+        check(FORM(contours, 3, shapes, 2, 5, 3) == I_SHAPE_NO_ROOM, W, name, "room for five of six points");
+        check(FORM(contours, 3, shapes, 2, 6, 2) == I_SHAPE_NO_ROOM, W, name, "room for two of three offsets of contours");
+        given[5].y = LEAST_UNSAFE;
+        check(FORM(contours, 3, shapes, 2, 6, 3) == I_SHAPE_UNSAFE, W, name, "polygons with a point that isn't safe");
+        check(IS_UNTOUCHED, W, name, "codes leave the arrays of forms as they were");
+        given[5].y = 4;
+        /* Copies of both arrays, and a list of the contours. */
+        WITH_EACH_GROWTH_FAILED(FORM(contours, 3, shapes, 2, 6, 3), IS_UNTOUCHED, growths == 3, W, name);
+        WITH_EACH_GROWTH_FAILED(FORM(contours, 1, none, 1, 6, 3), 1, growths == 0, W, name);
+#undef IS_UNTOUCHED
+#undef FORM
     }
 }
 
@@ -283,7 +341,7 @@ static void AT(test_codes_of_tests)(void) {
         check(call(given, 8, none, 1, out, 0) == 0 && is_filled(out, sizeof out), W, name, "of many, no contour");
         check(call(given, 8, inner, 3, out, 2) == 0 && out[0] == 1 && out[1] == 1 && is_filled(out + 2, 1), W, name,
               "of many, points outside the offsets aren't read");
-        WITH_EACH_GROWTH_REFUSED(call(given, 8, inner, 3, out, 2), 1, growths == 0, W, name);
+        WITH_EACH_GROWTH_FAILED(call(given, 8, inner, 3, out, 2), 1, growths == 0, W, name);
     }
 }
 
@@ -302,7 +360,7 @@ static void AT(test_codes_of_areas)(void) {
     check(CALL(area_two_contours)(given, 7, both, 3, areas, 2) == 0 && AREA_IS(areas[0], 16) && AREA_IS(areas[1], (int64_t)LEAST_UNSAFE)
               && is_filled(areas + 2, sizeof *areas), W, "area_two", "of many, a point that isn't safe");
     check(CALL(area_two_contours)(given, 7, empty, 2, areas, 1) == 0 && AREA_IS(areas[0], 0), W, "area_two", "of many, a contour without a point");
-    WITH_EACH_GROWTH_REFUSED(CALL(area_two_contours)(given, 7, both, 3, areas, 2), 1, growths == 0, W, "area_two");
+    WITH_EACH_GROWTH_FAILED(CALL(area_two_contours)(given, 7, both, 3, areas, 2), 1, growths == 0, W, "area_two");
 }
 
 static void AT(test_windings)(void) {
@@ -343,7 +401,7 @@ static void AT(test_windings)(void) {
     check(CALL(winding)(given + 8, 4, 2, 2) == I_SHAPE_NO_WINDING, W, "winding", "a vertex that isn't safe");
 }
 
-/* 64 points of a square, and 32 points along a line through it: with memory for the sorted points, and with each growth refused. */
+/* 64 points of a square, and 32 points along a line through it: with memory for the sorted points, and with each growth failing. */
 static void AT(test_many_points)(void) {
     enum { SIDE = 16, ASKED = 32 };
     POINT ring[4 * SIDE], about[ASKED];
@@ -360,26 +418,26 @@ static void AT(test_many_points)(void) {
     uint8_t filled[ASKED];
     int8_t located[ASKED];
     for (int growth = 0; growth <= 4; growth++) {
-#ifdef REFUSES
-        refused = (size_t)growth;
+#ifdef FAILS_GROWTHS
+        failing = (size_t)growth;
         growths = 0;
 #endif
-        check(CALL(windings)(ring, 4 * SIDE, offsets, 2, about, ASKED, numbers, ASKED) == 0, W, "windings", "memory that is refused");
-#ifdef REFUSES
+        check(CALL(windings)(ring, 4 * SIDE, offsets, 2, about, ASKED, numbers, ASKED) == 0, W, "windings", "memory that fails");
+#ifdef FAILS_GROWTHS
         check(growth != 0 || growths == 2, W, "windings", "how often memory is taken");
         growths = 0;
 #endif
         check(CALL(contains_points)(ring, 4 * SIDE, offsets, 2, about, ASKED, I_SHAPE_EVEN_ODD, filled, ASKED) == 0, W, "contains_points",
-              "memory that is refused");
-#ifdef REFUSES
+              "memory that fails");
+#ifdef FAILS_GROWTHS
         check(growth != 0 || growths == 3, W, "contains_points", "how often memory is taken");
         growths = 0;
 #endif
-        check(CALL(locate)(ring, 4 * SIDE, offsets, 2, about, ASKED, I_SHAPE_EVEN_ODD, located, ASKED) == 0, W, "locate", "memory that is refused");
-#ifdef REFUSES
+        check(CALL(locate)(ring, 4 * SIDE, offsets, 2, about, ASKED, I_SHAPE_EVEN_ODD, located, ASKED) == 0, W, "locate", "memory that fails");
+#ifdef FAILS_GROWTHS
         check(growth != 0 || growths == 3, W, "locate", "how often memory is taken");
         check(blocks == 0, W, "locate", "a block is lost");
-        refused = 0;
+        failing = 0;
 #endif
         for (int k = 0; k < ASKED; k++) {
             const int x = (int)about[k].x, inside = 0 < x && x < SIDE, on = x == 0 || x == SIDE;
@@ -416,15 +474,68 @@ static void AT(test_locations)(void) {
     check(is_filled(bytes, sizeof bytes) && is_filled(places, sizeof places), W, "locate", "codes leave the array as it was");
 }
 
+/* Behind a point that no contour has, and a contour that no polygon has: a square with a hole, a polygon without contours, a square that
+   turns right over a corner of the first, and one in the hole. */
+static void AT(test_holders)(void) {
+    const POINT given[22] = {{LEAST_UNSAFE, 0},
+                             {30, 30}, {34, 30}, {34, 34}, {30, 34},
+                             {0, 0}, {10, 0}, {10, 10}, {0, 10}, {2, 2}, {2, 8}, {8, 8}, {8, 2},
+                             {9, 9}, {9, 14}, {14, 14}, {14, 9},
+                             {3, 3}, {7, 3}, {7, 7}, {3, 7},
+                             {0, LEAST_UNSAFE}};
+    POINT about[8] = {{1, 5}, {5, 5}, {11, 12}, {9, 9}, {2, 5}, {32, 32}, {20, 5}, {5, 20}};
+    const size_t contours[6] = {1, 5, 9, 13, 17, 21}, shapes[5] = {1, 3, 3, 4, 5}, none = I_SHAPE_NO_SHAPE;
+    const size_t holders[4][8] = {{0, 3, 2, 0, none, none, none, none}, {0, 3, 2, 0, none, none, none, none},
+                                  {0, 3, none, 0, none, none, none, none}, {none, none, 2, 2, none, none, none, none}};
+    const size_t back[3] = {1, 9, 5}, outside[2] = {1, 23}, shapes_back[3] = {1, 4, 3}, shapes_outside[2] = {1, 6}, low[2] = {0, 5}, high[2] = {17, 22}, one[2] = {0, 1};
+    size_t out[9];
+    for (int rule = I_SHAPE_EVEN_ODD; rule <= I_SHAPE_NEGATIVE; rule++) {
+        fill(out, sizeof out);
+        check(CALL(locate_in_shapes)(given, 22, contours, 6, shapes, 5, about, 8, rule, out, 9) == 0 && memcmp(out, holders[rule], sizeof *holders) == 0
+              && is_filled(out + 8, sizeof *out), W, "locate_in_shapes", "four polygons by each rule");
+    }
+    check(CALL(locate_in_shapes)(given, 22, contours, 6, shapes, 1, about, 1, I_SHAPE_NONZERO, out, 1) == 0 && out[0] == none, W, "locate_in_shapes", "no polygon");
+    fill(out, sizeof out);
+    check(CALL(locate_in_shapes)(given, 22, contours, 6, shapes, 5, about, 0, I_SHAPE_NONZERO, out, 0) == 0, W, "locate_in_shapes", "no point");
+    check(CALL(locate_in_shapes)(given, 22, contours, 6, shapes, 5, about, 8, 4, out, 9) == I_SHAPE_BAD_OFFSETS, W, "locate_in_shapes", "no such rule");
+    check(CALL(locate_in_shapes)(given, 22, contours, 0, shapes, 5, about, 8, 1, out, 9) == I_SHAPE_BAD_OFFSETS, W, "locate_in_shapes", "no offset of contours");
+    check(CALL(locate_in_shapes)(given, 22, contours, 6, shapes, 0, about, 8, 1, out, 9) == I_SHAPE_BAD_OFFSETS, W, "locate_in_shapes", "no offset of polygons");
+    check(CALL(locate_in_shapes)(given, 22, back, 3, one, 2, about, 8, 1, out, 9) == I_SHAPE_BAD_OFFSETS, W, "locate_in_shapes", "contours that run backwards");
+    check(CALL(locate_in_shapes)(given, 22, outside, 2, one, 2, about, 8, 1, out, 0) == I_SHAPE_BAD_OFFSETS, W, "locate_in_shapes", "a contour out of the points");
+    check(CALL(locate_in_shapes)(given, 22, contours, 6, shapes_back, 3, about, 8, 1, out, 9) == I_SHAPE_BAD_OFFSETS, W, "locate_in_shapes", "polygons that run backwards");
+    check(CALL(locate_in_shapes)(given, 22, contours, 6, shapes_outside, 2, about, 8, 1, out, 0) == I_SHAPE_BAD_OFFSETS, W, "locate_in_shapes", "a polygon out of the contours");
+    check(CALL(locate_in_shapes)(given, 22, contours, 6, shapes, 5, about, 8, 1, out, 7) == I_SHAPE_NO_ROOM, W, "locate_in_shapes", "room for seven of eight");
+    check(CALL(locate_in_shapes)(given, 22, low, 2, one, 2, about, 8, 1, out, 0) == I_SHAPE_NO_ROOM, W, "locate_in_shapes", "the room is tested before the points");
+    check(CALL(locate_in_shapes)(given, 22, low, 2, one, 2, about, 8, 1, out, 9) == I_SHAPE_UNSAFE, W, "locate_in_shapes", "a first point that isn't safe");
+    check(CALL(locate_in_shapes)(given, 22, high, 2, one, 1, about, 8, 1, out, 9) == I_SHAPE_UNSAFE, W, "locate_in_shapes", "a last point that isn't safe, of no polygon");
+    about[7].y = LEAST_UNSAFE;
+    check(CALL(locate_in_shapes)(given, 22, contours, 6, shapes, 5, about, 8, 1, out, 9) == I_SHAPE_UNSAFE, W, "locate_in_shapes", "a point asked about that isn't safe");
+    check(is_filled(out, sizeof out), W, "locate_in_shapes", "codes leave the array as it was");
+#ifdef FAILS_GROWTHS
+    about[7].y = 20;
+    for (size_t growth = 0; growth <= 2; growth++) {
+        failing = growth;
+        growths = 0;
+        check(CALL(locate_in_shapes)(given, 22, contours, 6, shapes, 5, about, 8, I_SHAPE_EVEN_ODD, out, 8) == 0 && memcmp(out, holders[0], sizeof *holders) == 0, W,
+              "locate_in_shapes", "memory that fails");
+        check(growths == 1 && blocks == 0, W, "locate_in_shapes", "how often memory is taken");
+        failing = 0;
+    }
+#endif
+}
+
+/* Behind a point that no contour has: a bow tie, a triangle, and one that touches it. */
+static const POINT AT(in_contact)[12] = {{LEAST_UNSAFE, 0}, {0, 0}, {4, 4}, {4, 0}, {0, 4}, {6, 0}, {9, 0}, {6, 9}, {7, 0}, {7, -2}, {8, -2}, {0, LEAST_UNSAFE}};
+static const size_t AT(in_contact_offsets)[4] = {1, 5, 8, 11};
+
 /* Whether the call returned this contact, and behind it nothing was written. */
 static int AT(is_contact)(int32_t answer, const size_t *out, size_t first, size_t second) {
     return answer == 1 && out[0] == first && out[1] == second && is_filled(out + 2, sizeof *out);
 }
 
 static void AT(test_contacts)(void) {
-    /* Behind a point that no contour has: a bow tie, a triangle, and one that touches it. */
-    POINT given[12] = {{LEAST_UNSAFE, 0}, {0, 0}, {4, 4}, {4, 0}, {0, 4}, {6, 0}, {9, 0}, {6, 9}, {7, 0}, {7, -2}, {8, -2}, {0, LEAST_UNSAFE}};
-    const size_t all[4] = {1, 5, 8, 11}, backwards[3] = {1, 8, 5}, outside[2] = {1, 13}, low[2] = {0, 5}, high[2] = {8, 12};
+    const POINT *given = AT(in_contact);
+    const size_t *all = AT(in_contact_offsets), backwards[3] = {1, 8, 5}, outside[2] = {1, 13}, low[2] = {0, 5}, high[2] = {8, 12};
     size_t out[3];
     fill(out, sizeof out);
     check(AT(is_contact)(CALL(first_contact)(given + 1, 4, out, 3), out, 0, 2), W, "first_contact", "a bow tie");
@@ -446,7 +557,47 @@ static void AT(test_contacts)(void) {
     check(CALL(first_contact_of_rings)(given, 12, low, 2, out, 2) == I_SHAPE_UNSAFE, W, "first_contact_of_rings", "a first point that isn't safe");
     check(CALL(first_contact_of_rings)(given, 12, high, 2, out, 2) == I_SHAPE_UNSAFE, W, "first_contact_of_rings", "a last point that isn't safe");
     check(is_filled(out, sizeof out), W, "first_contact_of_rings", "codes and 0 leave the array as it was");
-    WITH_EACH_GROWTH_REFUSED(CALL(first_contact_of_rings)(given, 12, all, 4, out, 2), is_filled(out, sizeof out), growths == 1, W, "first_contact_of_rings");
+    WITH_EACH_GROWTH_FAILED(CALL(first_contact_of_rings)(given, 12, all, 4, out, 2), is_filled(out, sizeof out), growths == 1, W, "first_contact_of_rings");
+}
+
+static void AT(test_all_contacts)(void) {
+    /* A bow tie, with a spike over its closing edge. */
+    POINT given[5] = {{0, 0}, {4, 4}, {4, 0}, {0, 4}, {0, -1}};
+    const i_shape_contact all[3] = {{0, 2}, {0, 3}, {3, 4}};
+    i_shape_contact out[4];
+    fill(out, sizeof out);
+    check(CALL(contacts)(given, 4, out, 4) == 1 && !memcmp(out, all, sizeof *out) && is_filled(out + 1, 3 * sizeof *out), W, "contacts", "a bow tie");
+    check(CALL(contacts)(given, 5, out, 4) == 3 && !memcmp(out, all, sizeof all) && is_filled(out + 3, sizeof *out), W, "contacts", "a bow tie with a spike");
+    fill(out, sizeof out);
+    check(CALL(contacts)(given, 5, out, 2) == 3 && !memcmp(out, all, 2 * sizeof *out) && is_filled(out + 2, 2 * sizeof *out), W, "contacts", "room for two of three");
+    fill(out, sizeof out);
+    check(CALL(contacts)(given, 5, out, 0) == 3 && CALL(contacts)(given, 0, out, 4) == 0, W, "contacts", "no room, and no point");
+    given[4].x = LEAST_UNSAFE;
+    check(CALL(contacts)(given, 5, out, 4) == I_SHAPE_UNSAFE, W, "contacts", "a vertex that isn't safe");
+    check(is_filled(out, sizeof out), W, "contacts", "the code and 0 leave the array as it was");
+}
+
+static void AT(test_contacts_of_rings)(void) {
+    const POINT *given = AT(in_contact);
+    const size_t *all = AT(in_contact_offsets), first[4] = {0, 4, 7, 10}, backwards[3] = {1, 8, 5}, low[2] = {0, 5};
+    const i_shape_contact contacts[3] = {{1, 3}, {5, 8}, {5, 10}}, from_zero[3] = {{0, 2}, {4, 7}, {4, 9}};
+    i_shape_contact out[4];
+    fill(out, sizeof out);
+    check(CALL(contacts_of_rings)(given, 12, all, 4, out, 4) == 3 && !memcmp(out, contacts, sizeof contacts) && is_filled(out + 3, sizeof *out), W,
+          "contacts_of_rings", "within a contour, and between two");
+    check(CALL(contacts_of_rings)(given + 1, 11, first, 4, out, 4) == 3 && !memcmp(out, from_zero, sizeof from_zero) && is_filled(out + 3, sizeof *out), W,
+          "contacts_of_rings", "the same from 0 on");
+    fill(out, sizeof out);
+    check(CALL(contacts_of_rings)(given, 12, all, 4, out, 2) == 3 && !memcmp(out, contacts, 2 * sizeof *out) && is_filled(out + 2, 2 * sizeof *out), W,
+          "contacts_of_rings", "room for two of three");
+    fill(out, sizeof out);
+    check(CALL(contacts_of_rings)(given, 12, all + 1, 2, out, 4) == 0 && CALL(contacts_of_rings)(given, 12, all, 1, out, 4) == 0, W,
+          "contacts_of_rings", "one contour, and none");
+    check(CALL(contacts_of_rings)(given, 12, all, 0, out, 4) == I_SHAPE_BAD_OFFSETS, W, "contacts_of_rings", "no offset");
+    check(CALL(contacts_of_rings)(given, 12, backwards, 3, out, 4) == I_SHAPE_BAD_OFFSETS, W, "contacts_of_rings", "offsets that run backwards");
+    check(CALL(contacts_of_rings)(given, 12, low, 2, out, 4) == I_SHAPE_UNSAFE, W, "contacts_of_rings", "a point that isn't safe");
+    check(is_filled(out, sizeof out), W, "contacts_of_rings", "codes and 0 leave the array as it was");
+    WITH_EACH_GROWTH_FAILED(CALL(contacts_of_rings)(given, 12, all, 4, out, 4), is_filled(out, sizeof out), growths == 1, W, "contacts_of_rings");
 }
 
 /* Behind a point that no contour has, and a contour that no polygon has: a polygon of each kind, and one without contours. */
@@ -480,12 +631,12 @@ static void AT(test_validity)(void) {
     check(CALL(validity_shapes)(given, 50, low, 2, one, 2, out, 7) == I_SHAPE_UNSAFE, W, "validity_shapes", "a first point that isn't safe");
     check(CALL(validity_shapes)(given, 50, high, 2, one, 1, out, 7) == I_SHAPE_UNSAFE, W, "validity_shapes", "a last point that isn't safe, of no polygon");
     check(is_filled(out, sizeof out), W, "validity_shapes", "codes leave the array as it was");
-    WITH_EACH_GROWTH_REFUSED(CALL(validity_shapes)(given, 50, contours, 15, shapes, 7, out, 7), is_filled(out, sizeof out), growths == 1, W, "validity_shapes");
+    WITH_EACH_GROWTH_FAILED(CALL(validity_shapes)(given, 50, contours, 15, shapes, 7, out, 7), is_filled(out, sizeof out), growths == 1, W, "validity_shapes");
 }
 
 /* Sixteen points and more: steps up and back down, of which the last edge, with `touches`, touches the second one. With each growth
-   refused the result is the same. */
-static void AT(test_refused_contacts)(void) {
+   failing, the result is the same. */
+static void AT(test_contacts_without_memory)(void) {
     enum { STEPS = 20, COUNT = 2 * STEPS };
     POINT steps[COUNT];
     const size_t whole[2] = {0, COUNT}, one[2] = {0, 1};
@@ -500,8 +651,8 @@ static void AT(test_refused_contacts)(void) {
             size_t out[3];
             uint8_t byte = 2;
             i_shape_fault fault;
-#ifdef REFUSES
-#define WITH_GROWTH(place) (refused = growth * (place), growths = 0)
+#ifdef FAILS_GROWTHS
+#define WITH_GROWTH(place) (failing = growth * (place), growths = 0)
 #define ARE_TAKEN(count) (growths == (count) && blocks == 0)
 #else
 #define WITH_GROWTH(place) ((void)0)
@@ -522,8 +673,8 @@ static void AT(test_refused_contacts)(void) {
             check(CALL(validity_shapes)(steps, COUNT, whole, 2, one, 2, &fault, 1) == 0 && ARE_TAKEN(2), W, "validity_shapes", "steps");
             check(fault.kind == (touches ? I_SHAPE_CONTACT : I_SHAPE_VALID) && fault.first == (touches ? 1 : 0) && fault.second == (touches ? COUNT - 2 : 0), W,
                   "validity_shapes", "where steps touch");
-#ifdef REFUSES
-            refused = 0;
+#ifdef FAILS_GROWTHS
+            failing = 0;
 #endif
 #undef WITH_GROWTH
 #undef ARE_TAKEN
@@ -546,7 +697,7 @@ static void AT(test_area)(void) {
     }
 }
 
-static void AT(test_refusals)(void) {
+static void AT(test_failed_growths)(void) {
     /* Contours of four and of six points, each with a point that is repeated and one on an edge. */
     const POINT given[10] = {{0, 0}, {4, 0}, {4, 0}, {4, 4}, {0, 0}, {4, 0}, {4, 0}, {4, 4}, {0, 4}, {0, 2}};
     const POINT square[4] = {{0, 0}, {4, 0}, {4, 4}, {0, 4}};
@@ -556,18 +707,18 @@ static void AT(test_refusals)(void) {
         POINT out[11];
         size_t out_offsets[4];
         fill(out, sizeof out);
-        WITH_EACH_GROWTH_REFUSED(AT(cleaners)[k](given + 4, 6, out, 6), is_filled(out, sizeof out), growths == 1, W, cleaner_names[k]);
-        WITH_EACH_GROWTH_REFUSED(AT(cleaners)[k](square, 4, out, 4), 1, growths == 0, W, cleaner_names[k]);
+        WITH_EACH_GROWTH_FAILED(AT(cleaners)[k](given + 4, 6, out, 6), is_filled(out, sizeof out), growths == 1, W, cleaner_names[k]);
+        WITH_EACH_GROWTH_FAILED(AT(cleaners)[k](square, 4, out, 4), 1, growths == 0, W, cleaner_names[k]);
         fill(out, sizeof out);
         fill(out_offsets, sizeof out_offsets);
-        WITH_EACH_GROWTH_REFUSED(AT(batches)[k](given, 10, offsets, 3, out, 10, out_offsets, 3),
+        WITH_EACH_GROWTH_FAILED(AT(batches)[k](given, 10, offsets, 3, out, 10, out_offsets, 3),
                                  is_filled(out, sizeof out) && is_filled(out_offsets, sizeof out_offsets), growths == 1, W, cleaner_names[k]);
-        WITH_EACH_GROWTH_REFUSED(AT(batches)[k](square, 4, twice, 3, out, 4, out_offsets, 3), 1, growths == 0, W, cleaner_names[k]);
+        WITH_EACH_GROWTH_FAILED(AT(batches)[k](square, 4, twice, 3, out, 4, out_offsets, 3), 1, growths == 0, W, cleaner_names[k]);
         /* Below three points, and of no contour, no memory is taken. */
         for (size_t count = 0; count < 3; count++)
-            WITH_EACH_GROWTH_REFUSED(AT(cleaners)[k](given, count, out, count), 1, growths == 0, W, cleaner_names[k]);
-        WITH_EACH_GROWTH_REFUSED(AT(batches)[k](given, 10, few, 4, out, 10, out_offsets, 4), 1, growths == 0, W, cleaner_names[k]);
-        WITH_EACH_GROWTH_REFUSED(AT(batches)[k](given, 10, none, 1, out, 10, out_offsets, 1), 1, growths == 0, W, cleaner_names[k]);
+            WITH_EACH_GROWTH_FAILED(AT(cleaners)[k](given, count, out, count), 1, growths == 0, W, cleaner_names[k]);
+        WITH_EACH_GROWTH_FAILED(AT(batches)[k](given, 10, few, 4, out, 10, out_offsets, 4), 1, growths == 0, W, cleaner_names[k]);
+        WITH_EACH_GROWTH_FAILED(AT(batches)[k](given, 10, none, 1, out, 10, out_offsets, 1), 1, growths == 0, W, cleaner_names[k]);
     }
     /* Polygons with a spike in each contour: the places of the longest alone. A contour that no polygon has takes nothing. */
     const POINT spiked[10] = {{0, 0}, {8, 0}, {4, 0}, {4, 4}, {0, 0}, {8, 0}, {4, 0}, {4, 4}, {0, 4}, {0, 2}};
@@ -578,33 +729,33 @@ static void AT(test_refusals)(void) {
         if (is_form(k)) continue;
 #define CLEAN(POINTS, OFFSETS, COUNT, SHAPES, SHAPE_COUNT) AT(polygons)[k](POINTS, 10, OFFSETS, COUNT, SHAPES, SHAPE_COUNT, out, 10, out_contours, 3, out_shapes, 3)
 #define IS_UNTOUCHED (is_filled(out, sizeof out) && is_filled(out_contours, sizeof out_contours) && is_filled(out_shapes, sizeof out_shapes))
-#define WITH_EACH_REFUSED(CALLED, GROWTHS) \
+#define WITH_EACH_FAILED(CALLED, GROWTHS) \
         fill(out, sizeof out); \
         fill(out_contours, sizeof out_contours); \
         fill(out_shapes, sizeof out_shapes); \
-        WITH_EACH_GROWTH_REFUSED(CALLED, IS_UNTOUCHED, growths == (GROWTHS), W, cleaner_names[k])
-        WITH_EACH_REFUSED(CLEAN(spiked, offsets, 2, one, 2), 1);
-        WITH_EACH_REFUSED(CLEAN(spiked, offsets, 3, both, 2), 1);
-        WITH_EACH_REFUSED(CLEAN(spiked, offsets, 3, apart, 3), 1);
-        WITH_EACH_REFUSED(CLEAN(spiked, offsets, 3, nothing, 2), 0);
+        WITH_EACH_GROWTH_FAILED(CALLED, IS_UNTOUCHED, growths == (GROWTHS), W, cleaner_names[k])
+        WITH_EACH_FAILED(CLEAN(spiked, offsets, 2, one, 2), 1);
+        WITH_EACH_FAILED(CLEAN(spiked, offsets, 3, both, 2), 1);
+        WITH_EACH_FAILED(CLEAN(spiked, offsets, 3, apart, 3), 1);
+        WITH_EACH_FAILED(CLEAN(spiked, offsets, 3, nothing, 2), 0);
         const POINT mixed[10] = {{0, 0}, {8, 0}, {4, 0}, {4, 4}, {0, 4}, {0, 2}, {0, 0}, {4, 0}, {4, 4}, {0, 4}};
-        WITH_EACH_REFUSED(CLEAN(mixed, behind, 3, last, 2), 0);
-        WITH_EACH_REFUSED(CLEAN(mixed, behind, 3, both, 2), 1);
-#undef WITH_EACH_REFUSED
+        WITH_EACH_FAILED(CLEAN(mixed, behind, 3, last, 2), 0);
+        WITH_EACH_FAILED(CLEAN(mixed, behind, 3, both, 2), 1);
+#undef WITH_EACH_FAILED
 #undef IS_UNTOUCHED
 #undef CLEAN
     }
-    WITH_EACH_GROWTH_REFUSED(CALL(is_simple)(given, 10), 1, growths == 0, W, "is_simple");
-    WITH_EACH_GROWTH_REFUSED(CALL(has_no_spikes)(given, 10), 1, growths == 0, W, "has_no_spikes");
-    WITH_EACH_GROWTH_REFUSED(CALL(is_convex)(given, 10), 1, growths == 0, W, "is_convex");
-    WITH_EACH_GROWTH_REFUSED(CALL(contains)(given, 10, 1, 1), 1, growths == 0, W, "contains");
-    WITH_EACH_GROWTH_REFUSED(CALL(contains_by)(given, 10, 1, 1, I_SHAPE_NONZERO), 1, growths == 0, W, "contains_by");
+    WITH_EACH_GROWTH_FAILED(CALL(is_simple)(given, 10), 1, growths == 0, W, "is_simple");
+    WITH_EACH_GROWTH_FAILED(CALL(has_no_spikes)(given, 10), 1, growths == 0, W, "has_no_spikes");
+    WITH_EACH_GROWTH_FAILED(CALL(is_convex)(given, 10), 1, growths == 0, W, "is_convex");
+    WITH_EACH_GROWTH_FAILED(CALL(contains)(given, 10, 1, 1), 1, growths == 0, W, "contains");
+    WITH_EACH_GROWTH_FAILED(CALL(contains_by)(given, 10, 1, 1, I_SHAPE_NONZERO), 1, growths == 0, W, "contains_by");
     ptrdiff_t number;
-    WITH_EACH_GROWTH_REFUSED(CALL(winding)(square, 4, 1, 1), 1, growths == 0, W, "winding");
-    WITH_EACH_GROWTH_REFUSED(CALL(windings)(given, 10, offsets, 3, square, 1, &number, 1), 1, growths == 0, W, "windings");
+    WITH_EACH_GROWTH_FAILED(CALL(winding)(square, 4, 1, 1), 1, growths == 0, W, "winding");
+    WITH_EACH_GROWTH_FAILED(CALL(windings)(given, 10, offsets, 3, square, 1, &number, 1), 1, growths == 0, W, "windings");
 }
 
-#ifdef REFUSES
+#ifdef FAILS_GROWTHS
 /* How many bytes the calls ask for: one place for each point of the longest contour of which a point is removed. A canonical form of
    polygons also copies their points and offsets, and makes two slices for each contour and one for each polygon. A slice is a
    pointer and a length. To sort more than 20 polygons it takes two rows of what each is sorted by, and one slice more for each. */
@@ -635,7 +786,7 @@ static void AT(test_sizes)(void) {
         check(AT(batches)[k](given, COUNT, offsets, SQUARES + 1, out, COUNT, out_offsets, SQUARES + 1) == 4 * SQUARES && asked == places, W,
               cleaner_names[k], "how much it asks for of many contours");
 #define CLEAN() AT(polygons)[k](given, COUNT, offsets, SQUARES + 1, shapes, POLYGONS + 1, out, COUNT, out_offsets, SQUARES + 1, out_shapes, POLYGONS + 1)
-        WITH_EACH_GROWTH_REFUSED(CLEAN(), 1, growths == (is_form(k) ? 10 : k == 0), W, cleaner_names[k]);
+        WITH_EACH_GROWTH_FAILED(CLEAN(), 1, growths == (is_form(k) ? 10 : k == 0), W, cleaner_names[k]);
         asked = 0;
         check(CLEAN() == POLYGONS, W, cleaner_names[k], "32 polygons of two squares");
 #undef CLEAN
@@ -670,7 +821,7 @@ static void AT(test_named)(void) {
     POINT *const given = (POINT *)(void *)memory;
     memcpy(given + contours[0], square, sizeof square);
     size_t out_contours[2], out_shapes[2];
-#ifdef REFUSES
+#ifdef FAILS_GROWTHS
     const size_t places = CORNERS * sizeof(size_t), lists = CORNERS * sizeof(POINT) + 10 * sizeof(size_t);
     for (int k = 0; k < CLEANERS; k++) {
         growths = asked = 0;
@@ -690,7 +841,7 @@ static void AT(test_named)(void) {}
 #endif
 
 static void AT(test_width)(void) {
-#ifdef REFUSES
+#ifdef FAILS_GROWTHS
     AT(test_sizes)();
 #endif
     AT(test_one)();
@@ -699,6 +850,8 @@ static void AT(test_width)(void) {
     AT(test_many_codes)();
     AT(test_shapes)();
     AT(test_shapes_codes)();
+    AT(test_forms)();
+    AT(test_forms_codes)();
     AT(test_named)();
     AT(test_tests)();
     AT(test_one_zero_turn)();
@@ -708,11 +861,14 @@ static void AT(test_width)(void) {
     AT(test_windings)();
     AT(test_many_points)();
     AT(test_locations)();
+    AT(test_holders)();
     AT(test_contacts)();
+    AT(test_all_contacts)();
+    AT(test_contacts_of_rings)();
     AT(test_validity)();
-    AT(test_refused_contacts)();
+    AT(test_contacts_without_memory)();
     AT(test_area)();
-    AT(test_refusals)();
+    AT(test_failed_growths)();
 }
 
 #undef LEAST_UNSAFE

@@ -105,7 +105,7 @@ static FILE *recorded;
 static int passed, failed;
 
 /* Prints the line of a call, or compares it with the next one of the file. */
-static void tell(const char *name, uint64_t hash) {
+static void report(const char *name, uint64_t hash) {
     char line[80], wanted[80] = "";
     snprintf(line, sizeof line, "%016" PRIx64 " %s", hash, name);
     if (recorded == NULL) {
@@ -149,14 +149,14 @@ static void hash_offsets(size_t rounds) {
                                                                     out_offsets[1], room_of.shapes, out_offsets[2], room_of.offsets));
         compact = written(compact);
     }
-    tell("i_shape_first_bad_offset", first_bad);
-    tell("i_shape_compact_shapes", compact);
+    report("i_shape_first_bad_offset", first_bad);
+    report("i_shape_compact_shapes", compact);
 }
 
 static void tell_all(uint64_t seed, size_t rounds) {
     state = seed * UINT64_C(0x9e3779b97f4a7c15) + 1;
     /* whether the library has the version of its header, and not which that is */
-    tell("i_shape_version", i_shape_version() == I_SHAPE_VERSION);
+    report("i_shape_version", i_shape_version() == I_SHAPE_VERSION);
     hash_offsets(rounds);
     hash_i16(rounds);
     hash_i32(rounds);
@@ -167,6 +167,15 @@ static void tell_all(uint64_t seed, size_t rounds) {
     hash_validity_i16(rounds);
     hash_validity_i32(rounds);
     hash_validity_i64(rounds);
+    hash_holders_i16(rounds);
+    hash_holders_i32(rounds);
+    hash_holders_i64(rounds);
+    hash_all_contacts_i16(rounds);
+    hash_all_contacts_i32(rounds);
+    hash_all_contacts_i64(rounds);
+    hash_forms_i16(rounds);
+    hash_forms_i32(rounds);
+    hash_forms_i64(rounds);
 }
 
 int main(int argc, char **argv) {

@@ -90,7 +90,7 @@ static void AT(make_triangles)(void) {
             (void)rule, (void)x, (void)y; \
             hash = AT(written)(mixed(hash, answer_of((int64_t)CALL(NAME) WORDS))); \
         } \
-        tell(TEXT(CALL(NAME)), hash); \
+        report(TEXT(CALL(NAME)), hash); \
     } while (0)
 #define TEXT_OF(name) #name
 #define TEXT(name) TEXT_OF(name)
@@ -146,6 +146,27 @@ static void AT(hash_validity)(size_t rounds) {
     HASH_MADE(make_triangles, validity_shapes, (BATCH, shapes, shape_count, (i_shape_fault *)out_offsets[0], room(shape_count > 0 ? shape_count - 1 : 0)));
 }
 
+/* An index is read as a signed number, so that I_SHAPE_NO_SHAPE is -1 whatever the size of a size_t. */
+static void AT(hash_holders)(size_t rounds) {
+    HASH_MADE(make_triangles, locate_in_shapes, (BATCH, shapes, shape_count, AT(about), about_count, rule, (size_t *)numbers, room_of.about));
+}
+
+/* A contact is two numbers, as the arrays of offsets are. */
+static void AT(hash_all_contacts)(size_t rounds) {
+    i_shape_contact *const contacts = (i_shape_contact *)out_offsets[0];
+    const size_t most = sizeof out_offsets / sizeof *contacts;
+    HASH(contacts, (POINTS, contacts, below(most + 1)));
+    HASH(contacts_of_rings, (BATCH, contacts, below(most + 1)));
+}
+
+#define FORMED (BATCH, shapes, shape_count, AT(out), room_of.points, out_offsets[0], room_of.offsets)
+
+static void AT(hash_forms)(size_t rounds) {
+    HASH(canonical_polygons, FORMED);
+    HASH(canonical_unoriented_polygons, FORMED);
+}
+
+#undef FORMED
 #undef JOINED
 #undef JOIN
 #undef AT

@@ -1,7 +1,7 @@
 # The installation. The files of CMake and pkg-config name the folders by the ways from their own, so that a prefix of `cmake --install` serves too.
 include(GNUInstallDirs)
 install(FILES include/i_shape.h include/i_shape.hpp DESTINATION "${CMAKE_INSTALL_INCLUDEDIR}")
-install(FILES LICENSE README.md DESTINATION "${CMAKE_INSTALL_DOCDIR}")
+install(FILES LICENSE NOTICE README.md DESTINATION "${CMAKE_INSTALL_DOCDIR}")
 install(DIRECTORY "${i_shape_LIBRARY_DIR}/" DESTINATION "${CMAKE_INSTALL_LIBDIR}" FILE_PERMISSIONS OWNER_READ OWNER_WRITE GROUP_READ WORLD_READ PATTERN "*.dll" EXCLUDE)
 if(i_shape_IMPORT_FILE)
   install(PROGRAMS "${i_shape_LIBRARY_DIR}/${i_shape_SHARED_FILE}" DESTINATION "${CMAKE_INSTALL_BINDIR}")

@@ -14,7 +14,7 @@ KNOWN_DECLARATION = re.compile(
     r"|llvm\.(memset\.p0\.i64|memmove\.p0\.p0\.i64|memcpy\.p0\.p0\.i64|trap|assume"
     r"|(ctlz|cttz|ctpop|bswap|bitreverse|fshl|fshr|abs|[us](min|max|(add|sub)\.sat)|[us](add|sub|mul)\.with\.overflow)\.i\d+))\(.*\) #\d+"
 )
-# What may stand outside of functions: comments, bytes that don't change, metadata, and groups of attributes.
+# What may be outside of functions: comments, bytes that don't change, metadata, and groups of attributes.
 KNOWN_LINE = re.compile(
     r"""|;.*|source_filename\ =\ "rattle"|target\ (datalayout|triple)\ =\ ".*"
     |@static\.\d+\ =\ private\ unnamed_addr\ constant\ \[\d+\ x\ i8\]\ (zeroinitializer|c".*"),\ align\ \d+

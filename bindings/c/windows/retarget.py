@@ -5,7 +5,7 @@ usage: retarget.py LINUX.ll WINDOWS.ll
 
 It changes the data layout and the triple; how a large frame reaches for the stack, which Windows has a function for; whether a table says
 how each frame is left, by which Windows walks the stack; and what Windows passes between functions in another way than Linux: a whole
-number narrower than its register has no known bits above it, and the pair that a function of the allocator answers comes back in memory.
+number narrower than its register has no known bits above it, and the pair that a function of the allocator returns comes back in memory.
 It stops at whatever it doesn't know to mean the same on Windows, such as an exported function that is passed a struct. rattle has no
 target of Windows, so what it writes can be compared with nothing.
 """
@@ -45,7 +45,7 @@ def exported(line: str) -> str:
 
 
 def allocator_calls(line: str) -> list[str]:
-    """The lines that stand for the declaration of a function of the allocator: where it answers a pair, one that comes back in memory, and the call of it."""
+    """The lines that stand for the declaration of a function of the allocator: where it returns a pair, one that comes back in memory, and the call of it."""
     found = ALLOCATOR_DECLARATION.fullmatch(line)
     types = [bare(each) for each in types_of(found["parameters"])]
     if (bare(found["result"]), types) != ALLOCATOR.get(found["name"]):

@@ -114,7 +114,7 @@ attributes #3 = { nobuiltin nounwind }
 """
 FIRST = "  %v3 = icmp ult i64 %v2, %a1\n"
 
-# What the script stops at: its name, the text that the module has, and what stands there in its place.
+# What the script stops at: its name, the text that the module has, and what is there in its place.
 UNKNOWN = [
     ("another target", "x86_64-unknown-linux-gnu", "aarch64-unknown-linux-gnu"),
     ("another layout", "e-m:e-p270", "e-m:o-p270"),
@@ -137,8 +137,8 @@ UNKNOWN = [
     # what is passed in another way on Windows
     ("an exported function that is passed a struct", "@toy_kept(ptr noundef %a0, i64", "@toy_kept(ptr noundef %a0, { i64, i64 }"),
     ("an exported function that is passed a number of 128 bits", "@toy_kept(ptr noundef %a0, i64", "@toy_kept(ptr noundef %a0, i128"),
-    ("an exported function that answers a pair", "define noundef i64 @toy_kept", "define { i64, i64 } @toy_kept"),
-    ("an allocator that answers another pair", "declare { i64, i64 } @rattle_alloc", "declare { i64, ptr } @rattle_alloc"),
+    ("an exported function that returns a pair", "define noundef i64 @toy_kept", "define { i64, i64 } @toy_kept"),
+    ("an allocator that returns another pair", "declare { i64, i64 } @rattle_alloc", "declare { i64, ptr } @rattle_alloc"),
     ("an allocator that is passed more", "@rattle_alloc(i64 noundef,", "@rattle_alloc(ptr noundef, i64 noundef,"),
     ("a call of the allocator with words of its own", "call { i64, i64 } @rattle_realloc(", "call noundef { i64, i64 } @rattle_realloc("),
     ("an allocator whose address is kept", FIRST, FIRST + "  store ptr @rattle_alloc, ptr %r0, align 8\n"),

@@ -1,11 +1,11 @@
--- Twice the area of points of C, where there may be none.
+-- Twice the area of points of C, of which there may be none.
 use Rattle.std.proofs.Common.{◌≡◌, ◌↔◌, ◌<◌, ℤ, pos, List, [], ◌∷◌, map, length, refl, arith, Option, Some, None, unwrap_or, IfSome, IsSome}
 use Rattle.std.specs.Int.{Width, int_wrap}
 use Rattle.i_shape.specs.Point.{Point}
 use Rattle.i_shape.specs.Edges.{shoelace}
-use Rattle.i_shape_core.proofs.measure.AreaWalk.{wrapped-zero}
+use Rattle.i_shape_core.proofs.Sums.AreaWalk.{wrapped-zero}
 
--- 0 is the area where there is no point
+-- the area, or 0 if there is no point, is the wrapped double area
 pub area_or_zero : {P : Type 0} (width : Width) (point : P → Point) (points : List P) (area : Option ℤ) → IsSome area ↔ (0 < length points)
     → IfSome area (λ z. z ≡ int_wrap width (shoelace (map point points))) → unwrap_or area (pos 0) ≡ int_wrap width (shoelace (map point points))
 unfolding shoelace

@@ -1,25 +1,25 @@
--- The indices of what is left, one polygon more at a time.
+-- The indices of what is left, built polygon by polygon.
 use Rattle.std.proofs.Common.{◌≡◌, ℕ, Bool, true, false, ◌+◌, ◌-◌, ◌≤◌, ◌<◌, ◌++◌, List, [], ◌∷◌, map, length, set, cond, append-nil, refl, sym, ap, ◌∙◌, arith}
 use Rattle.std.specs.List.{filter, range_with_len}
 use Rattle.std.proofs.lemmas.List.{map-id, map-append, length-map, length-set}
 use Rattle.std.proofs.lemmas.List.FromFn.{filter_of_map_range_with_len_more}
 use Rattle.i_shape.specs.Paths.{concatenated}
-use Rattle.i_shape_c.specs.Appended.{IsPut, ends_from, AppendsRings}
+use Rattle.i_shape_c.specs.Steps.Appended.{IsPut, ends_from, AppendsRings}
 use Rattle.i_shape_c.specs.Batch.{contour_arrays, offset}
 use Rattle.i_shape_c.specs.declared.polygons.Counts.{Counts}
 use Rattle.i_shape_c.specs.Compacted.{has_points, is_left, shapes_left, contours_left, contours_by_shape, Indices, AreIndicesLeft}
 use Rattle.i_shape_c.proofs.Appended.{put_one, put_more, put_front, ring_put, rings_more, offsets-ends_from}
 
--- one number more
+-- filtering n + 1 numbers is filtering n and then the next
 filter_more : (test : ℕ → Bool) (a n j : ℕ) → a + n ≡ j → filter test (range_with_len a (n + 1)) ≡ filter test (range_with_len a n) ++ cond (test j) (j ∷ []) []
 filter_more test a n j at =
     ap (filter test) (sym (map-id (range_with_len a (n + 1)))) ∙ filter_of_map_range_with_len_more test (λ x. x) a n j at ∙ ap (λ w. filter test w ++ cond (test j) (j ∷ []) []) (map-id (range_with_len a n))
 
--- it passes
+-- a number that passes is appended
 filter_passing : (test : ℕ → Bool) (a n j : ℕ) → a + n ≡ j → test j ≡ true → filter test (range_with_len a (n + 1)) ≡ filter test (range_with_len a n) ++ (j ∷ [])
 filter_passing test a n j at passes = filter_more test a n j at ∙ ap (λ b. filter test (range_with_len a n) ++ cond b (j ∷ []) []) passes
 
--- it doesn't pass
+-- a number that fails adds nothing
 filter_failing : (test : ℕ → Bool) (a n j : ℕ) → a + n ≡ j → test j ≡ false → filter test (range_with_len a (n + 1)) ≡ filter test (range_with_len a n)
 filter_failing test a n j at fails = filter_more test a n j at ∙ ap (λ b. filter test (range_with_len a n) ++ cond b (j ∷ []) []) fails ∙ append-nil (filter test (range_with_len a n))
 
@@ -30,20 +30,20 @@ module _ (contours : List ℕ) (start k : ℕ) (order : start ≤ k) where
   here : start + (k - start) ≡ k
   here = omega (arith, order)
 
-  -- one contour more, which has points
+  -- contour k is appended if it has points
   pub contour_left : has_points contours k ≡ true → contours_left contours start (k + 1) ≡ contours_left contours start k ++ (k ∷ [])
   contour_left some = rw next (filter_passing (has_points contours) start (k - start) k here some)
 
-  -- one contour more, which has no points
+  -- contour k adds nothing if it has no points
   pub contour_collapsed : has_points contours k ≡ false → contours_left contours start (k + 1) ≡ contours_left contours start k
   contour_collapsed none = rw next (filter_failing (has_points contours) start (k - start) k here none)
 
--- nothing is written
+-- nothing is written yet
 abbrev zero : Counts
 zero = record { points = 0; contours = 0; shapes = 0 }
 
 module _ (contours shapes : List ℕ) (old : Indices) where
-  -- the indices of what is left of the first n polygons are written, and the offsets behind the first, which is 0
+  -- the indices of what is left of the first n polygons are written, and the offsets after the first, which is 0
   pub record IndicesBegun (n : ℕ) (new : Indices) (end count : ℕ) : Type 0 where
     pub lists : AppendsRings (contours_by_shape contours shapes n) (contour_arrays old.contours (set old.offsets 0 0)) (contour_arrays new.contours new.offsets) zero (record { points = end; contours = count; shapes = 0 })
     pub numbers : IsPut 0 (shapes_left contours shapes n) old.shapes new.shapes
@@ -51,7 +51,7 @@ module _ (contours shapes : List ℕ) (old : Indices) where
     pub fewer_contours : end + offset shapes 0 ≤ offset shapes n
     pub fewer_shapes : count ≤ n
 
-  -- one polygon more, that collapses
+  -- a polygon that collapses adds nothing
   pub begun_collapsed : (n : ℕ) (new : Indices) (end count : ℕ) → IndicesBegun n new end count → is_left contours shapes n ≡ false → offset shapes n ≤ offset shapes (n + 1) → IndicesBegun (n + 1) new end count
   begun_collapsed n new end count begun collapses order =
       let same = filter_failing (is_left contours shapes) 0 n n (omega arith) collapses in
@@ -63,7 +63,7 @@ module _ (contours shapes : List ℕ) (old : Indices) where
         fewer_shapes = omega (arith, begun.fewer_shapes);
       }
 
-  -- one polygon more, that is left
+  -- a polygon that is left adds its index, those of its contours and its offset
   pub begun_more : (n : ℕ) (mid : Indices) (new_contours : List ℕ) (end count : ℕ) → IndicesBegun n mid end count → is_left contours shapes n ≡ true
       → IsPut end (contours_left contours (offset shapes n) (offset shapes (n + 1))) mid.contours new_contours → length new_contours ≡ length mid.contours → count + 1 < length old.offsets → count < length old.shapes
       → end + length (contours_left contours (offset shapes n) (offset shapes (n + 1))) + offset shapes n ≤ end + offset shapes (n + 1)
@@ -86,7 +86,7 @@ module _ (contours shapes : List ℕ) (old : Indices) where
         fewer_shapes = omega (arith, begun.fewer_shapes);
       }
 
-  -- all are
+  -- at the end the indices of all polygons and contours left are written
   pub begun_all : (new : Indices) (end count : ℕ) → IndicesBegun (length shapes - 1) new end count → 0 < length old.offsets → AreIndicesLeft contours shapes (length shapes - 1) old new count
   begun_all new end count begun some =
       let lists = contours_by_shape contours shapes (length shapes - 1) in

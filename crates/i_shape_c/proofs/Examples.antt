@@ -1,4 +1,4 @@
--- The definitions that the calls' clauses cite, at values that are written out.
+-- The definitions that the calls' clauses cite, at literal values.
 use Rattle.std.proofs.Common.{◌≡◌, ◌<◌, ◌≤◌, ◌+◌, ℕ, ℤ, List, [], ◌∷◌, ◌++◌, length, map, pos, negsuc, refl, sym, ap, ◌∙◌, ◌-◌, ◌^◌, zero, suc, lit≤, lit<, inl, inr, arith, Option, Some, None, FitsSigned}
 use Rattle.std.specs.Int.{w16, w32, w128, cast_unsigned}
 use Rattle.std.proofs.lemmas.Int.{int_wrap_fits, ints}
@@ -7,10 +7,10 @@ use Rattle.i_shape.specs.Edges.{shoelace, area_of_edge, Inside, is_right}
 use Rattle.i_shape.specs.ShapeAnswers.{ListClean}
 use Rattle.i_shape.specs.Winding.{winding, winding_of_edge}
 use Rattle.i_shape.specs.Written.{slot, IsCleaned}
-use Rattle.i_shape_core.specs.declared.fill_rule.FillRule.TheVariants.{EvenOdd, NonZero}
+use Rattle.i_shape_core.specs.declared.measure.fill_rule.FillRule.TheVariants.{EvenOdd, NonZero}
 use Rattle.i_shape_c.specs.Areas.{AreHalves, AreDoubleAreaHalves, IsDoubleArea}
 use Rattle.i_shape_c.specs.Batch.{contour_arrays, nth_contour, AreRising, PartsPoints, HasRoom, AreSafeContours, AreSpared, BatchAnswer, CleansContours}
-use Rattle.i_shape_c.specs.Cleaning.{Cleaning, cleaning}
+use Rattle.i_shape.specs.Cleaning.{Cleaning}
 use Rattle.i_shape_c.specs.Cleaned.{AreSafe, TakesNoMemory, CleanAnswer, CleansContour}
 use Rattle.i_shape_c.specs.Codes.{code_of, IsRefusal, Refuses}
 use Rattle.i_shape_c.specs.Compacted.{Indices, CompactsShapes}
@@ -31,12 +31,12 @@ self p = p
 abbrev box : List Point
 box = at 0 0 ∷ at 10 0 ∷ at 10 10 ∷ at 0 10 ∷ []
 
--- the first test that fails gives the code, and no memory is the code only where nothing is spared
+-- the first test that fails decides the code; the code for memory comes only if the call isn't spared
 refusals : (code_of Unsafe ≡ negsuc 0) × (code_of BadOffsets ≡ negsuc 1) × (code_of NoMemory ≡ negsuc 2) × (code_of NoRoom ≡ negsuc 3)
     × IsRefusal ⊥ ⊥ ⊥ (Some BadOffsets) × (IsRefusal ⊥ ⊥ ⊥ (Some NoRoom) → ⊥) × (IsRefusal (Unit {0}) ⊥ ⊥ (Some Unsafe) → ⊥) × (Refuses (Unit {0}) (Unit {0}) (Unit {0}) (Unit {0}) (code_of NoMemory) → ⊥)
 refusals = (refl, refl, refl, refl, λ parted. parted, λ why. why.0, λ why. why.1, λ why. why.memory refl tt)
 
--- no code where the offsets divide the points, there is room, and the points are safe
+-- no code is returned if the offsets divide the points, there is room, and the points are safe
 accepted : {Parted Room Safe Spared : Type 0} → (n : ℕ) → Parted → Room → Safe → Refuses Parted Room Safe Spared (pos n)
 accepted n parted room safe = record {
   bad_offsets = (λ is. absurd (cc), λ bad. absurd (bad parted));
@@ -45,7 +45,7 @@ accepted n parted room safe = record {
   memory = λ is. absurd (cc);
 }
 
--- what lies before the first offset or behind the last is no part, and equal offsets part an empty one
+-- points before the first offset or from the last on belong to no part; equal offsets give an empty part
 parted : (parts {P = ℕ} (1 ∷ 2 ∷ 3 ∷ 4 ∷ 5 ∷ []) (1 ∷ 3 ∷ 3 ∷ 4 ∷ []) ≡ (2 ∷ 3 ∷ []) ∷ [] ∷ (4 ∷ []) ∷ []) × (parts {P = ℕ} (1 ∷ 2 ∷ []) (1 ∷ []) ≡ [])
     × (polygons {P = ℕ} (1 ∷ 2 ∷ 3 ∷ []) (0 ∷ 1 ∷ 1 ∷ 3 ∷ []) (0 ∷ 2 ∷ 2 ∷ 3 ∷ []) ≡ ((1 ∷ []) ∷ [] ∷ []) ∷ [] ∷ ((2 ∷ 3 ∷ []) ∷ []) ∷ [])
     × (offsets_of {P = ℕ} 0 ((1 ∷ 2 ∷ []) ∷ [] ∷ (3 ∷ []) ∷ []) ≡ 0 ∷ 2 ∷ 2 ∷ 3 ∷ []) × (offsets_of {P = ℕ} 0 [] ≡ 0 ∷ [])
@@ -100,12 +100,12 @@ spared = (inl (lit< tt), long, λ k less. let first : k ≡ 0 = omega (arith, le
     long (inl few) = omega (arith, few)
     long (inr never) = never
 
--- cleaning, where each contour is its own answer
+-- cleaning in which each contour is its own answer
 abbrev Stays : List Point → Option (List Point) → Type 0
 Stays c r = r ≡ slot c
 
 abbrev staying : Cleaning
-staying = cleaning (λ c. ⊥) Stays Stays (λ P given left. given ≡ left) 3
+staying = record { clean = λ c. ⊥; answers = Stays; keeps = Stays; picks = λ P given left. given ≡ left; fewest = 3 }
 
 abbrev Answer : List Point → List Point → List Point → ℤ → Type 0
 Answer = CleanAnswer staying w32 self
@@ -128,10 +128,10 @@ each_cleaned = (record { first = refl; order = order; last = refl; fewer = lit�
     order : AreRising (0 ∷ 0 ∷ 9 ∷ []) 2
     order k less = let first : k ≡ 0 = omega (arith, less) in rw first (lit≤ tt)
 
-    cleaned : (k : ℕ) → k + 1 < 2 → IsCleaned Stays Stays w32 (map self (nth_contour [] (0 ∷ 0 ∷ []) k)) (slot (map self (nth_contour [] (0 ∷ 0 ∷ 9 ∷ []) k)))
+    cleaned : (k : ℕ) → k + 1 < 2 → IsCleaned staying w32 (map self (nth_contour [] (0 ∷ 0 ∷ []) k)) (slot (map self (nth_contour [] (0 ∷ 0 ∷ 9 ∷ []) k)))
     cleaned k less = let first : k ≡ 0 = omega (arith, less) in rw first (record { answer = refl; kept = refl; safe = tt })
 
--- no polygon leaves none: both lists of offsets are 0 alone
+-- of no polygons none is left: both lists of offsets are 0 alone
 abbrev none_given : PolygonCleaning
 none_given = record { spares = HaveNoContours; gives = ListClean Stays }
 
@@ -193,7 +193,7 @@ filled = (
   λ f. f.answer refl,
 )
 
--- winding numbers are summed over the contours that the offsets give
+-- winding numbers are summed over the contours that the offsets delimit
 wound : (contours_winding self (box ++ box) (0 ∷ 4 ∷ 8 ∷ []) (at 5 5) ≡ pos 2) × (contours_winding self (box ++ box) (4 ∷ 8 ∷ []) (at 5 5) ≡ pos 1) × (WindsAbout w32 self [] (at 5 5) (pos 1) → ⊥)
     × WindingsAnswer self (contour_arrays box (0 ∷ 4 ∷ [])) (at 5 5 ∷ at 15 5 ∷ []) (pos 9 ∷ pos 9 ∷ pos 9 ∷ []) (pos 1 ∷ pos 0 ∷ pos 9 ∷ []) (pos 0)
     × WindsAboutEach w32 self (contour_arrays box (0 ∷ [])) (at 5 5 ∷ []) (pos 9 ∷ pos 9 ∷ []) (pos 0 ∷ pos 9 ∷ []) (pos 0)

@@ -1,11 +1,11 @@
--- A polygon's own offsets, which begin with 0, and its first fault among those of many polygons.
+-- A polygon's own offsets, rebased to 0, and its first fault among those of many polygons.
 use Rattle.std.proofs.Common.{◌≡◌, ◌∙◌, All, ℕ, ◌+◌, ◌-◌, ◌<◌, ◌≤◌, List, [], ◌∷◌, ◌++◌, length, take, set, slice_range, refl, ap, ap₂, sym, subst, subst₂, arith}
 use Rattle.std.specs.List.{AllZip, range_with_len}
 use Rattle.std.proofs.lemmas.List.{get_or-map, length-map, take_all, take_more, take_more_set, map-id}
 use Rattle.std.proofs.lemmas.List.FromFn.{map-range_with_len_more}
 use Rattle.std.proofs.lemmas.Slice.Zip.{all_zipped_more}
-use Rattle.i_shape_core.specs.Point.{Point}
-use Rattle.i_shape_core.proofs.lists.Rings.{rises_to}
+use Rattle.i_shape.specs.Point.{Point}
+use Rattle.i_shape_core.proofs.Lists.Rings.{rises_to}
 use Rattle.i_shape_contacts.specs.Courses.{DividesPoints}
 use Rattle.i_shape_contacts.specs.Validity.{IsFirstFault}
 use Rattle.i_shape_contacts.specs.declared.validity.Validity.{Validity}
@@ -15,24 +15,24 @@ use Rattle.i_shape_c.specs.declared.validity.Fault.{Fault}
 use Rattle.i_shape_c.proofs.Appended.{parted_part, offset_part, length_part}
 use Rattle.i_shape_c.proofs.Batches.{all_part}
 
--- each offset is less by the first one
+-- each rebased offset is the offset less the first
 pub offset_rebased : (offsets : List ℕ) (k : ℕ) → k < length offsets → offset (rebased offsets) k ≡ offset offsets k - offset offsets 0
 offset_rebased offsets k less = get_or-map (λ o. o - offset offsets 0) offsets k 0 0 less
 
--- there are as many
+-- rebasing keeps the number of offsets
 pub length_rebased : (offsets : List ℕ) → length (rebased offsets) ≡ length offsets
 length_rebased offsets = length-map offsets (λ o. o - offset offsets 0)
 
--- one more of them is written
+-- writing rebased offset k extends the first k to k + 1
 pub rebased_more : (offsets own : List ℕ) (k x : ℕ) → k < length offsets → k < length own → take k own ≡ take k (rebased offsets) → x ≡ offset offsets k - offset offsets 0 → take (k + 1) (set own k x) ≡ take (k + 1) (rebased offsets)
 rebased_more offsets own k x less room before is =
     take_more_set own k x room ∙ ap₂ (λ (l : List ℕ) (y : ℕ). l ++ y ∷ []) before (is ∙ sym (offset_rebased offsets k less)) ∙ sym (take_more (rebased offsets) k 0 (let many = length_rebased offsets in omega (arith, less, many)))
 
--- all of them are written
+-- at the end all rebased offsets are written
 pub rebased_all : (offsets own : List ℕ) (n : ℕ) → length offsets ≤ n → take n own ≡ take n (rebased offsets) → take n own ≡ rebased offsets
 rebased_all offsets own n most is = is ∙ take_all n (rebased offsets) (let many = length_rebased offsets in omega (arith, most, many))
 
--- they divide the points between the first and the last of the offsets
+-- rebased offsets divide the points between the first and the last offset
 pub rebased_divides : (offsets : List ℕ) (points n : ℕ) → PartsPoints points offsets → n + offset offsets 0 ≡ offset offsets (length offsets - 1) → DividesPoints n (rebased offsets)
 rebased_divides offsets points n parted count =
     let many = length_rebased offsets in
@@ -54,23 +54,23 @@ rebased_divides offsets points n parted count =
           ap (offset (rebased offsets)) last ∙ e ∙ (let d : offset offsets (length offsets - 1) - offset offsets 0 ≡ n = omega (arith, count) in d));
     }
 
--- the first fault of a polygon's own offsets and points is that at its places among all
+-- the first fault of a polygon's own offsets and points is its fault among all, at shifted indices
 pub fault_placed : (points own_points : List Point) (offsets own : List ℕ) (contour : ℕ) (validity : Validity) → own ≡ rebased offsets → own_points ≡ points_between points offsets → IsFirstFault own own_points validity → IsFaultOf points offsets contour (placed contour (offset offsets 0) validity)
 fault_placed points own_points offsets own contour validity less part first = record { validity = validity; first = subst₂ (λ (l : List ℕ) (c : List Point). IsFirstFault l c validity) less part first; is = refl }
 
--- one fault more
+-- writing fault k extends the first k faults to k + 1
 pub faults_more : (R : ℕ → Fault → Type 0) (out : List Fault) (k place : ℕ) (written : Fault) → k + 1 ≡ place → k < length out → AllZip R (range_with_len 0 k) (take k out) → R k written → AllZip R (range_with_len 0 place) (take place (set out k written))
 faults_more R out k place written next room before here =
     let one_more : range_with_len 0 (k + 1) ≡ range_with_len 0 k ++ k ∷ [] = sym (map-id (range_with_len 0 (k + 1))) ∙ map-range_with_len_more (λ (j : ℕ). j) 0 k k (let same : 0 + k ≡ k = omega arith in same) ∙ ap (λ (l : List ℕ). l ++ k ∷ []) (map-id (range_with_len 0 k)) in
     subst (λ n. AllZip R (range_with_len 0 n) (take n (set out k written))) next
     (subst₂ (λ (ks : List ℕ) (faults : List Fault). AllZip R ks faults) (sym one_more) (sym (take_more_set out k written room)) (all_zipped_more R (range_with_len 0 k) (take k out) k written before here))
 
--- the offsets of the contours of the polygon before a place
+-- The offsets of the contours of polygon `place` - 1.
 module _ (contours shapes : List ℕ) (points place : ℕ) (contours_parted : PartsPoints points contours) (shapes_parted : PartsPoints (length contours - 1) shapes) (some : 0 < place) (less : place < length shapes) where
   abbrev own_offsets : List ℕ
   own_offsets = slice_range contours (offset shapes (place - 1)) (offset shapes place + 1)
 
-  -- they lie there
+  -- they lie within the offsets of all contours
   pub within : (offset shapes (place - 1) ≤ offset shapes place) × (offset shapes place < length contours)
   within =
       let last = rises_to shapes (length shapes) place (length shapes - 1) shapes_parted.order (omega (arith, less)) (omega (arith, less)) in
@@ -80,7 +80,7 @@ module _ (contours shapes : List ℕ) (points place : ℕ) (contours_parted : Pa
   pub own_parted : PartsPoints points own_offsets
   own_parted = let in_all = within in parted_part contours (offset shapes (place - 1)) (offset shapes place + 1) points contours_parted (omega (arith, in_all.0)) (omega (arith, in_all.1))
 
-  -- what holds of all points holds of those between the first of them and the last
+  -- if Q holds of all points, it holds of the polygon's points
   pub own_points : {P : Type 0} (Q : P → Type 0) (list : List P) → All Q (slice_range list (offset contours 0) (offset contours (length contours - 1))) → All Q (slice_range list (offset own_offsets 0) (offset own_offsets (length own_offsets - 1)))
   own_points Q list all =
       let in_all = within in

@@ -1,4 +1,4 @@
--- Cleaned polygons read back from arrays, and their form as it is written.
+-- Cleaned polygons read back from arrays, and their form as written.
 use Rattle.std.proofs.Common.{◌≡◌, ℕ, zero, suc, ◌+◌, ◌-◌, ◌≤◌, ◌<◌, ◌++◌, List, [], ◌∷◌, length, take, drop, get_or, map, slice_range, append-nil, append_assoc, length-append, refl, sym, ap, ap₂, subst, ◌∙◌, arith, Option, Some, Result, Ok, Err, OnErr}
 use Rattle.std.specs.List.{All, AllZip, AllPairs, range_with_len}
 use Rattle.std.proofs.lemmas.List.{length-map, map-append, take_at, drop_at, take-append-drop}
@@ -9,16 +9,16 @@ use Rattle.i_shape_core.proofs.Common.{Point, IsAtMost}
 use Rattle.i_shape.specs.Paths.{concatenated}
 use Rattle.i_shape.specs.CanonicalShapes.{ListForm, IsShapeAtMost}
 use Rattle.i_shape.specs.ShapeAnswers.{ShapeClean, ListClean, EachShape}
-use Rattle.i_shape.proofs.lists.Surviving.{survivors_have}
+use Rattle.i_shape.proofs.Lists.Surviving.{survivors_have}
 use Rattle.i_shape_c.specs.Batch.{offset, nth_contour, AreRising, PartsPoints}
 use Rattle.i_shape_c.specs.Polygons.{polygon_arrays, parts, polygons, offsets_of, HaveNoContours, AreShapesLeft}
-use Rattle.i_shape_c.specs.Sorted.{SortsRest, SortsPolygons, WritesSorted}
+use Rattle.i_shape_c.specs.Steps.Sorted.{SortsRest, SortsPolygons, WritesSorted}
 use Rattle.i_shape_c.proofs.Appended.{length-offsets}
 use Rattle.i_shape_c.proofs.PolygonLists.{polygon_at, polygons-map, all_from}
 use Rattle.i_shape_c.proofs.PolygonsLeft.{same_ranges, read_counts, polygons_written, offsets_rise}
 use Rattle.i_shape_c.proofs.SortedPolygons.{form_of_cleaned, sorted_counts}
 
--- the first part of a list
+-- the first n items of part ++ rest are the part, if that has n items
 front_part : {X : Type 0} (part whole rest : List X) (n : ℕ) → whole ≡ part ++ rest → length part ≡ n → slice_range whole 0 n ≡ part
 front_part part whole rest n is long =
     let none : n - 0 ≡ n = omega arith in
@@ -42,14 +42,14 @@ rising start (x ∷ xs) (suc k) less =
     let next : suc k + 1 ≡ suc (k + 1) = omega arith in
     rw next (rising (start + length x) xs k (omega (arith, less)))
 
--- the offsets of lists part the lists end to end
+-- the offsets of lists divide their concatenation
 pub offsets_part : {X : Type 0} (lists : List (List X)) (n : ℕ) → length (concatenated lists) ≤ n → PartsPoints n (offsets_of 0 lists)
 offsets_part lists n within =
     let long = length-offsets 0 lists in
     let end : length (offsets_of 0 lists) - 1 ≡ length lists = omega (arith, long) in
     record { some = omega (arith, long); order = rising 0 lists; last = rw end (omega (arith, last_offset 0 lists, within)) }
 
--- lists that lie end to end are read back by their offsets
+-- concatenated lists are the parts that their offsets delimit
 parts_back : {X : Type 0} (items : List X) (start : ℕ) (front rest : List X) (lists : List (List X)) → length front ≡ start → items ≡ front ++ (concatenated lists ++ rest) → parts items (offsets_of start lists) ≡ lists
 parts_back items start front rest [] long is = refl
 parts_back {X} items start front rest (x ∷ xs) long is =
@@ -72,7 +72,7 @@ parts_back {X} items start front rest (x ∷ xs) long is =
         let behind : drop start items ≡ x ++ (concatenated xs ++ rest) = ap (drop start) is ∙ drop_at front ((x ++ concatenated xs) ++ rest) start long ∙ append_assoc x (concatenated xs) rest in
         rw (first_offset (start + length x) xs, count, behind) (take_at x (concatenated xs ++ rest) (length x) refl)
 
--- what a call leaves, read back
+-- Reading back what a call leaves.
 module _ {P : Type 0} (Form : List Point → Option (List Point) → Type 0) {at : P → Point} {points : List P} {contours shapes : List ℕ} {old_points new_points : List P} {old_contours new_contours old_shapes new_shapes : List ℕ} {n : ℕ}
     (left : AreShapesLeft (ListClean Form) at (polygon_arrays points contours shapes) (polygon_arrays old_points old_contours old_shapes) (polygon_arrays new_points new_contours new_shapes) n) where
   abbrev pub rings : List (List Point)
@@ -84,7 +84,7 @@ module _ {P : Type 0} (Form : List Point → Option (List Point) → Type 0) {at
   pub shape_offsets : slice_range new_shapes 0 (n + 1) ≡ offsets_of 0 left.list
   shape_offsets = front_part (offsets_of 0 left.list) new_shapes (drop (length left.list + 1) old_shapes) (n + 1) left.shapes_are (omega (arith, length-offsets 0 left.list, left.count))
 
-  -- so many rings
+  -- the last offset of the polygons is the number of rings
   pub last_shape : offset (offsets_of 0 left.list) n ≡ length rings
   last_shape =
       let none : 0 + length rings ≡ length rings = omega arith in
@@ -101,7 +101,7 @@ module _ {P : Type 0} (Form : List Point → Option (List Point) → Type 0) {at
       let m = length (concatenated rings) in
       omega (arith, ap length (take-append-drop m new_points), length-append (take m new_points) (drop m new_points), ap length left.written, length-map (take m new_points) at)
 
-  -- the arrays hold the cleaned polygons
+  -- the polygons read back are the cleaned ones
   pub cleaned_are : map (map (map at)) cleaned ≡ left.list
   cleaned_are =
       let m = length (concatenated rings) in
@@ -128,7 +128,7 @@ module _ {P : Type 0} (Form : List Point → Option (List Point) → Type 0) {at
       (form_of_cleaned Form (polygons (map at points) contours shapes) left.list made left.left sorts) wrote.held
       (omega (arith, counts.0, reads.0, left.count)) (omega (arith, counts.2, reads.2, left.fewer_points)) (omega (arith, counts.1, reads.1, left.fewer_contours)) (omega (arith, counts.0, reads.0, left.count, left.fewer_shapes))
 
-  -- where no polygon has a contour, what is left of them is their form
+  -- if no polygon has a contour, what is left of them is their form
   pub none_written : HaveNoContours (polygons (map at points) contours shapes) → AreShapesLeft (ListForm Form) at (polygon_arrays points contours shapes) (polygon_arrays old_points old_contours old_shapes) (polygon_arrays new_points new_contours new_shapes) n
   none_written none = record {
     list = left.list;
@@ -165,24 +165,24 @@ module _ {P : Type 0} (Form : List Point → Option (List Point) → Type 0) {at
         in_order = λ i j d low high. subst (λ w. IsShapeAtMost w (get_or left.list j d)) (sym (own i d (omega (arith, low, high)))) tt;
       }
 
--- if P implies Q, an error that has P has Q
+-- if P implies Q, an error with P has Q
 pub if_err : {A E : Type 0} {P Q : Type 0} (r : Result A E) → (P → Q) → OnErr r P → OnErr r Q
 if_err (Ok a) f h = h
 if_err (Err e) f h = f h
 
--- polygons without a contour take no memory
+-- polygons without contours need no memory
 pub none_spared : (Passes : List Point → Type 0) (list : List (List (List Point))) → HaveNoContours list → EachShape Passes list
 none_spared Passes list none = λ k d less. subst (All Passes) (sym (none k d less)) (All-nil Passes)
 
 module _ {X : Type 0} (points : List X) (contours : List ℕ) {shapes : List ℕ} (parted : PartsPoints (length contours - 1) shapes) where
-  -- between equal offsets no polygon has a contour
+  -- if the first and last offset are equal, no polygon has a contour
   pub level_none : offset shapes 0 ≡ offset shapes (length shapes - 1) → (k : ℕ) (d : List (List X)) → k < length (polygons points contours shapes) → get_or (polygons points contours shapes) k d ≡ []
   level_none level = all_from (nth_contour (parts points contours) shapes) (λ s. s ≡ []) (length shapes - 1) (λ k less.
       let up = offsets_rise parted k (omega (arith, less)) in
       let none : offset shapes (k + 1) - offset shapes k ≡ 0 = omega (arith, up.0, up.1, up.2, level) in
       rw none refl)
 
-  -- if no polygon has a contour, the offsets are equal
+  -- if no polygon has a contour, the first and last offset are equal
   pub none_level : ((k : ℕ) (d : List (List X)) → k < length (polygons points contours shapes) → get_or (polygons points contours shapes) k d ≡ []) → offset shapes 0 ≡ offset shapes (length shapes - 1)
   none_level none = go (length shapes - 1) (omega (arith, parted.some))
     where

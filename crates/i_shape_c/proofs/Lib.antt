@@ -9,9 +9,11 @@ pub mod PolygonsLeft
 pub mod Nested
 pub mod SortedPolygons
 pub mod FormsWritten
+pub mod HolesSorted
 pub mod Windings
 pub mod Told
 pub mod RingsMoved
 pub mod Compacted
 pub mod Faults
+pub mod Holding
 pub mod Examples

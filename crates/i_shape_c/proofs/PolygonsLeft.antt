@@ -1,4 +1,4 @@
--- What is left of polygons, where each contour is cleaned.
+-- What is left of polygons once each contour is cleaned.
 use Rattle.std.proofs.Common.{◌≡◌, Bool, ℕ, zero, suc, ◌+◌, ◌-◌, ◌^◌, ◌≤◌, ◌<◌, ◌⊎◌, ◌++◌, List, [], ◌∷◌, map, length, slice_range, refl, sym, ap, ap₂, subst, subst₂, ◌∙◌, arith, Option, Some, None, inl, inr, option_map, option_to_list, w32, w64, to_z, of_z}
 use Rattle.std.specs.List.{All, range_with_len}
 use Rattle.std.specs.Int.{Width}
@@ -10,10 +10,10 @@ use Rattle.std.proofs.lemmas.Simd.{map-map}
 use Rattle.i_shape.specs.Point.{Point}
 use Rattle.i_shape.specs.Paths.{concatenated}
 use Rattle.i_shape.specs.ShapeAnswers.{ShapeClean, ListClean, EachShape}
-use Rattle.i_shape.proofs.buffers.ShapeRanges.{slice_range-map}
-use Rattle.i_shape_core.proofs.lists.Rings.{rises_to}
-use Rattle.i_shape_core.proofs.lists.Survivors.{survivors-none, survivors-push}
-use Rattle.i_shape_c.specs.Appended.{HasPolygonsRoom, HoldsPolygons, IsReady, AppendsRings, AppendsPolygons, AppendsRingLeft, AppendsShapeLeft, WritesLeft, rings_at, polygons_of}
+use Rattle.i_shape.proofs.Buffers.ShapeRanges.{slice_range-map}
+use Rattle.i_shape_core.proofs.Lists.Rings.{rises_to}
+use Rattle.i_shape_core.proofs.Lists.Survivors.{survivors-none, survivors-push}
+use Rattle.i_shape_c.specs.Steps.Appended.{HasPolygonsRoom, HoldsPolygons, IsReady, AppendsRings, AppendsPolygons, AppendsRingLeft, AppendsShapeLeft, WritesLeft, rings_at, polygons_of}
 use Rattle.i_shape_c.specs.Batch.{contour_arrays, offset, nth_contour, PartsPoints, AreSafeContours}
 use Rattle.i_shape_c.specs.Cleaned.{AreSafe}
 use Rattle.i_shape_c.specs.Codes.{code_of, no_memory_code, IsRefusal}
@@ -26,17 +26,17 @@ use Rattle.i_shape_c.proofs.Batches.{safe_part}
 use Rattle.i_shape_c.proofs.PolygonLists.{polygon_at, concatenated-map, offsets-map}
 use Rattle.i_shape_c.proofs.Refusals.{each_code, code_of_64, refused, refused_memory, not_refused}
 
--- a list without items
+-- a list of length 0 is empty
 no_items : {X : Type 0} (xs : List X) → length xs ≡ 0 → xs ≡ []
 no_items [] none = refl
 no_items (x ∷ xs) none = absurd (omega (arith, none))
 
--- what is made of items and of one more that there may be
+-- mapping a list with an optional item appended is mapping the list and then the item
 map_more : {X Y : Type 0} (f : X → Y) (xs : List X) (x : Option X) → map f (xs ++ option_to_list x) ≡ map f xs ++ option_to_list (option_map f x)
 map_more f xs None = map-append f xs []
 map_more f xs (Some x) = map-append f xs (x ∷ [])
 
--- two functions that agree make the same of two ranges
+-- functions that agree on ranges shifted against each other map them to equal lists
 pub same_ranges : {X : Type 0} (f g : ℕ → X) (s t n : ℕ) → ((j : ℕ) → j < n → f (s + j) ≡ g (t + j)) → map f (range_with_len s n) ≡ map g (range_with_len t n)
 same_ranges f g s t zero each = refl
 same_ranges {X} f g s t (suc n) each = ap₂ ◌∷◌ first (same_ranges f g (s + 1) (t + 1) n next)
@@ -54,7 +54,7 @@ same_ranges {X} f g s t (suc n) each = ap₂ ◌∷◌ first (same_ranges f g (s
         subst₂ (λ a b. f a ≡ g b) here there (each (j + 1) (omega (arith, less)))
 
 module _ {P : Type 0} (Answer : List Point → Option (List Point) → Type 0) (at : P → Point) where
-  -- the first contours of a polygon are written, of which the outer one is left
+  -- what is left of a polygon's first contours is written, the outer one included
   pub record ShapeBegun (given : List (List P)) (old_points new_points : List P) (old_contours new_contours : List ℕ) (before after : Counts) : Type 0 where
     pub kept : List (List P)
     pub shape : ShapeClean Answer (map (map at) given) (Some (map (map at) kept))
@@ -66,7 +66,8 @@ module _ {P : Type 0} (Answer : List Point → Option (List Point) → Type 0) (
     pub shapes : ListClean Answer (map (map (map at)) given) (map (map (map at)) kept)
     pub appended : AppendsPolygons kept (polygon_arrays old_points old_contours old_shapes) (polygon_arrays new_points new_contours new_shapes) before after
 
-  -- one contour more
+  -- if the first contours leave `kept`, and the next leaves its answer, one contour more leaves both, unless none is
+  -- left
   shape_more : (given kept : List (List P)) (ring : List P) (left : Option (List P)) → ShapeClean Answer (map (map at) given) (Some (map (map at) kept)) → Answer (map at ring) (option_map (map at) left) → 0 < length (kept ++ option_to_list left)
       → ShapeClean Answer (map (map at) (given ++ (ring ∷ []))) (Some (map (map at) (kept ++ option_to_list left)))
   shape_more [] [] ring None shape answer some = absurd (omega (arith, some))
@@ -78,7 +79,7 @@ module _ {P : Type 0} (Answer : List Point → Option (List Point) → Type 0) (
     rw (map-append (map at) holes (ring ∷ []), map_more (map at) kept left) (survivors-push Answer (map (map at) holes) (map at ring) (map (map at) kept) (option_map (map at) left) shape.1 answer),
   )
 
-  -- nothing is left of a polygon of which no contour is left up to one
+  -- a polygon is left out if no contour is left up to and including this one
   shape_none : (given kept : List (List P)) (ring : List P) (left : Option (List P)) (rest : List (List P)) → ShapeClean Answer (map (map at) given) (Some (map (map at) kept)) → Answer (map at ring) (option_map (map at) left)
       → length (kept ++ option_to_list left) ≡ 0 → ShapeClean Answer (map (map at) ((given ++ (ring ∷ [])) ++ rest)) None
   shape_none [] [] ring None rest shape answer none = answer
@@ -93,7 +94,7 @@ module _ {P : Type 0} (Answer : List Point → Option (List Point) → Type 0) (
       rw (map-append (map (map at)) given (shape ∷ []), map_more (map (map at)) kept left) (survivors-push (ShapeClean Answer) (map (map (map at)) given) (map (map at) shape) (map (map (map at)) kept) (option_map (map (map at)) left) list answer)
 
   module _ (op mp np : List P) (oc mc nc : List ℕ) (before mid after : Counts) where
-    -- a contour behind the first ones of its polygon
+    -- writing what is left of a contour after that of its polygon's first ones extends the polygon
     pub begun_more : (given : List (List P)) (ring : List P) → ShapeBegun given op mp oc mc before mid → AppendsRingLeft Answer at ring (contour_arrays mp mc) (contour_arrays np nc) mid after → before.points ≤ length op → before.contours + 1 ≤ length oc
         → (after.contours ≡ before.contours → ⊥) → ShapeBegun (given ++ (ring ∷ [])) op np oc nc before after
     begun_more given ring begun more points_room contours_room some =
@@ -101,7 +102,7 @@ module _ {P : Type 0} (Answer : List Point → Option (List Point) → Type 0) (
         let full : 0 < length (begun.kept ++ option_to_list more.left) = omega (arith, appended.contours_count, some) in
         record { kept = begun.kept ++ option_to_list more.left; shape = shape_more given begun.kept ring more.left begun.shape more.answer full; appended = appended }
 
-    -- a polygon of which the outer contour collapses is left out
+    -- a polygon whose outer contour collapses is left out
     pub begun_none : (given : List (List P)) (ring : List P) (rest : List (List P)) (shapes : List ℕ) → ShapeBegun given op mp oc mc before mid → AppendsRingLeft Answer at ring (contour_arrays mp mc) (contour_arrays np nc) mid after → before.points ≤ length op → before.contours + 1 ≤ length oc
         → after.contours ≡ before.contours → AppendsShapeLeft Answer at ((given ++ (ring ∷ [])) ++ rest) (polygon_arrays op oc shapes) (polygon_arrays np nc shapes) before before
     begun_none given ring rest shapes begun more points_room contours_room none =
@@ -119,7 +120,7 @@ module _ {P : Type 0} (Answer : List Point → Option (List Point) → Type 0) (
           };
         }
 
-    -- a polygon behind polygons
+    -- writing what is left of a polygon after that of the first ones extends the list
     pub shapes_more : (given : List (List (List P))) (shape : List (List P)) (os ms ns : List ℕ) → ShapesBegun given op mp oc mc os ms before mid → AppendsShapeLeft Answer at shape (polygon_arrays mp mc ms) (polygon_arrays np nc ns) mid after
         → before.points ≤ length op → before.contours + 1 ≤ length oc → before.shapes + 1 ≤ length os → ShapesBegun (given ++ (shape ∷ [])) op np oc nc os ns before after
     shapes_more given shape os ms ns begun more points_room contours_room shapes_room = record {
@@ -128,19 +129,19 @@ module _ {P : Type 0} (Answer : List Point → Option (List Point) → Type 0) (
       appended = polygons_more begun.kept (option_to_list more.left) op mp np oc mc nc os ms ns before mid after begun.appended more.appended points_room contours_room shapes_room;
     }
 
--- a contour that can be cleaned without more memory still can where no room is given up
+-- a contour that can be cleaned without more memory still can if no room is lost
 pub ready_still : {P : Type 0} (Clean : List Point → Type 0) (width : Width) (read : List P → List Point) (is_clean : Bool) (had has : ℕ → Type 0) (ring : List P) → ((n : ℕ) → had n → has n)
     → IsReady Clean width read is_clean had ring → IsReady Clean width read is_clean has ring
 ready_still Clean width read is_clean had has ring keeps ready = record { safe = ready.safe; clean = ready.clean; reserved = λ unclean. keeps (length ring) (ready.reserved unclean) }
 
--- what holds of each contour holds of each of a part of them
+-- if Q holds of each contour, it holds of each of a part of them
 pub each_part : {P : Type 0} (Q : List P → Type 0) (points : List P) (offsets : List ℕ) (a b : ℕ) → a ≤ b → b ≤ length offsets → ((k : ℕ) → k + 1 < length offsets → Q (nth_contour points offsets k))
     → (k : ℕ) → k + 1 < length (slice_range offsets a b) → Q (nth_contour points (slice_range offsets a b) k)
 each_part Q points offsets a b order within each k less =
     let count = length_part offsets a b order within in
     rw (nth_part offsets a b points k (omega (arith, less, count))) (each (a + k) (omega (arith, less, count, within)))
 
--- polygons of points of C, and those that they represent
+-- Polygons of points of C, and those that they represent.
 module _ {P : Type 0} (at : P → Point) (list : List (List (List P))) where
   abbrev made : List (List (List Point))
   made = map (map (map at)) list
@@ -151,11 +152,11 @@ module _ {P : Type 0} (at : P → Point) (list : List (List (List P))) where
   made_points : concatenated (concatenated made) ≡ map at (concatenated (concatenated list))
   made_points = ap concatenated made_rings ∙ concatenated-map at (concatenated list)
 
-  -- they are as many, with as many contours and points
+  -- both have as many polygons, contours and points
   pub read_counts : (length made ≡ length list) × (length (concatenated made) ≡ length (concatenated list)) × (length (concatenated (concatenated made)) ≡ length (concatenated (concatenated list)))
   read_counts = (length-map list (map (map at)), ap length made_rings ∙ length-map (concatenated list) (map at), ap length made_points ∙ length-map (concatenated (concatenated list)) at)
 
-  -- arrays that hold what is made of polygons are what a call leaves
+  -- arrays that hold what a call makes of polygons are what it leaves
   pub polygons_written : (Gives : List (List (List Point)) → List (List (List Point)) → Type 0) (points : List P) (contours shapes : List ℕ) (old_points new_points : List P) (old_contours new_contours old_shapes new_shapes : List ℕ) (n : ℕ)
       → Gives (polygons (map at points) contours shapes) made → HoldsPolygons list (polygon_arrays old_points old_contours old_shapes) (polygon_arrays new_points new_contours new_shapes)
       → length list ≡ n → length (concatenated (concatenated list)) ≤ length points → length (concatenated list) < length contours → length list < length shapes
@@ -184,7 +185,7 @@ module _ {P : Type 0} (at : P → Point) (list : List (List (List P))) where
 pub spans : {n : ℕ} {offsets : List ℕ} → PartsPoints n offsets → offset offsets 0 ≤ offset offsets (length offsets - 1)
 spans {n} {offsets} part = rises_to offsets (length offsets) 0 (length offsets - 1) part.order (omega arith) (omega (arith, part.some))
 
--- between the first offset and the last, offsets rise
+-- offsets rise from the first to the last
 pub offsets_rise : {n : ℕ} {offsets : List ℕ} → PartsPoints n offsets → (k : ℕ) → k + 1 < length offsets
     → (offset offsets 0 ≤ offset offsets k) × (offset offsets k ≤ offset offsets (k + 1)) × (offset offsets (k + 1) ≤ offset offsets (length offsets - 1))
 offsets_rise {n} {offsets} part k less = (
@@ -193,7 +194,7 @@ offsets_rise {n} {offsets} part k less = (
   rises_to offsets (length offsets) (k + 1) (length offsets - 1) part.order (omega (arith, less)) (omega (arith, less)),
 )
 
--- the contours of polygons, of which those from the first polygon's on are `rings`
+-- Contours of polygons: `rings` are those from the first polygon's on.
 module _ {P : Type 0} (points : List P) {contours shapes : List ℕ} (parted : PartsPolygons (length points) contours shapes) where
   abbrev pub low : ℕ
   low = offset shapes 0
@@ -208,12 +209,12 @@ module _ {P : Type 0} (points : List P) {contours shapes : List ℕ} (parted : P
   count_rings =
       length_part contours low (high + 1) (omega (arith, spans parted.shapes_parted)) (omega (arith, parted.shapes_parted.last, parted.contours_parted.some))
 
-  -- they part the points
+  -- their offsets divide the points
   pub rings_parted : PartsPoints (length points) rings
   rings_parted =
       parted_part contours low (high + 1) (length points) parted.contours_parted (omega (arith, spans parted.shapes_parted)) (omega (arith, parted.shapes_parted.last, parted.contours_parted.some))
 
-  -- they begin and end where the contours of the polygons do
+  -- their first and last offset are those of the polygons' contours
   pub rings_ends : (offset rings 0 ≡ offset contours low) × (offset rings (length rings - 1) ≡ offset contours high)
   rings_ends =
       let total = count_rings in
@@ -223,7 +224,7 @@ module _ {P : Type 0} (points : List P) {contours shapes : List ℕ} (parted : P
         offset_part contours low (high + 1) (length rings - 1) (omega (arith, last)) ∙ ap (offset contours) last,
       )
 
-  -- there is room for them where there is for all
+  -- room for all points and contours is room for these
   pub room_for_polygons : (out_points out_contours out_shapes : ℕ) → HasShapesRoom (length points) (length contours) (length shapes) out_points out_contours out_shapes → HasPolygonsRoom contours shapes out_points out_contours out_shapes
   room_for_polygons out_points out_contours out_shapes room =
       let up = rises_to contours (length contours) high (length contours - 1) parted.contours_parted.order (omega (arith, parted.shapes_parted.last)) (omega (arith, parted.contours_parted.some)) in
@@ -234,16 +235,16 @@ module _ {P : Type 0} (points : List P) {contours shapes : List ℕ} (parted : P
       }
 
   module _ (at : P → Point) where
-    -- each contour of each polygon is one of them
+    -- contour low + i is ring i
     ring_is : (i : ℕ) → low + i < high → nth_contour (map at points) contours (low + i) ≡ map at (nth_contour points rings i)
     ring_is i less = slice_range-map at points (offset contours (low + i)) (offset contours (low + i + 1)) ∙ ap (map at) (sym (nth_part contours low (high + 1) points i (omega (arith, less))))
 
-    -- where all the points are safe, theirs are
+    -- if all points of the polygons are safe, so are those of the rings
     pub rings_safe : (width : Width) → AreSafeContours width at points contours → AreSafeContours width at points rings
     rings_safe width safe =
         subst₂ (λ a b. AreSafe width at (slice_range points a b)) (sym rings_ends.0) (sym rings_ends.1) (safe_part width at points contours low high parted.contours_parted.order (spans parted.shapes_parted) (omega (arith, parted.shapes_parted.last, parted.contours_parted.some)) safe)
 
-    -- the polygons are parted by them
+    -- the polygons are those that the rings form
     polygons_are : polygons (map at points) contours shapes ≡ map (map (map at)) (polygons_of points rings shapes (length shapes - 1))
     polygons_are = same_ranges (nth_contour (parts (map at points) contours) shapes) (λ k. map (map at) (parts points (rings_at rings shapes k))) 0 0 (length shapes - 1) (λ k less. shape k (0 + k) (omega arith) (omega (arith, less)))
         ∙ sym (map-map (map (map at)) (λ k. parts points (rings_at rings shapes k)) (range_with_len 0 (length shapes - 1)))
@@ -272,7 +273,7 @@ module _ {P : Type 0} (points : List P) {contours shapes : List ℕ} (parted : P
                 let given : nth_contour (map at points) contours (offset shapes k + j) ≡ map at (nth_contour points rings (from + j)) = ap (nth_contour (map at points) contours) (sym there) ∙ ring_is (from + j) (omega (arith, there, below, up.2)) in
                 given ∙ rw (here, nth_part rings from to points j (omega (arith, below, up.0, up.1))) refl
 
-    -- the polygon that a contour belongs to
+    -- each contour belongs to a polygon
     shape_of : (n x : ℕ) → n < length shapes → low ≤ x → x < offset shapes n → (k : ℕ) × (k < n) × (offset shapes k ≤ x) × (x < offset shapes (k + 1))
     shape_of zero x within above below = absurd (omega (arith, above, below))
     shape_of (suc n) x within above below = go (cases_lt x (offset shapes n)) (λ less. shape_of n x (omega (arith, within)) above less)
@@ -281,7 +282,7 @@ module _ {P : Type 0} (points : List P) {contours shapes : List ℕ} (parted : P
         go (inl less) before = let found = before less in (found.0, omega (arith, found.1), found.2, found.3)
         go (inr more) before = let next : suc n ≡ n + 1 = omega arith in (n, omega arith, more, subst (λ m. x < offset shapes m) next below)
 
-    -- where the polygons are clean, so is each of them
+    -- if the polygons are clean, so is each ring
     pub rings_clean : (Clean : List Point → Type 0) → EachShape Clean (polygons (map at points) contours shapes) → (i : ℕ) → i + 1 < length rings → Clean (map at (nth_contour points rings i))
     rings_clean Clean clean i less =
         let total = count_rings in
@@ -301,7 +302,7 @@ module _ {P : Type 0} (points : List P) {contours shapes : List ℕ} (parted : P
         let ring_read = get_or-map-range_with_len (nth_contour (map at points) contours) (offset shapes k) n j (low + i) [] fits (omega (arith, found.2)) in
         rw (ring_read, ring_is i below) at (shape_clean j [] (omega (arith, fits, many)))
 
-    -- the arrays hold what is left of the polygons
+    -- if the arrays hold what is left of the rings, they hold what is left of the polygons
     pub left_written : (Answer : List Point → Option (List Point) → Type 0) (given_rings : List ℕ) (old_points new_points : List P) (old_contours new_contours old_shapes new_shapes : List ℕ) (n : ℕ)
         → given_rings ≡ rings
         → WritesLeft Answer at (polygon_arrays points given_rings shapes) (polygon_arrays old_points old_contours old_shapes) (polygon_arrays new_points new_contours new_shapes) n
@@ -313,14 +314,14 @@ module _ {P : Type 0} (points : List P) {contours shapes : List ℕ} (parted : P
         wrote.written.held wrote.written.count wrote.written.fewer_points
         (omega (arith, wrote.written.fewer_contours, total, parted.shapes_parted.last, parted.contours_parted.some)) wrote.written.fewer_shapes
 
--- why a call on polygons is refused, or none where it isn't
+-- why a call on polygons fails, or none if it doesn't
 abbrev AreRefused : {P : Type 0} → Width → (P → Point) → List P → List ℕ → List ℕ → List P → List ℕ → List ℕ → Option Refusal → Type 0
 AreRefused width at points contours shapes old_points old_contours old_shapes =
     IsRefusal (PartsPolygons (length points) contours shapes) (HasShapesRoom (length points) (length contours) (length shapes) (length old_points) (length old_contours) (length old_shapes)) (AreSafeContours width at points contours)
 
--- what a call that cleans polygons returns
+-- What a call that cleans polygons returns.
 module _ {P : Type 0} {cleaning : PolygonCleaning} {width : Width} {at : P → Point} {points : List P} {contours shapes : List ℕ} {old_points : List P} {old_contours old_shapes : List ℕ} where
-  -- a refusal's code
+  -- a call that fails returns its code
   pub polygons_refused : (r : Refusal) → AreRefused width at points contours shapes old_points old_contours old_shapes (Some r)
       → CleansPolygons cleaning width at (polygon_arrays points contours shapes) (polygon_arrays old_points old_contours old_shapes) (polygon_arrays old_points old_contours old_shapes) (to_z w64 (of_z w64 (to_z w32 (of_z w32 (code_of r)))))
   polygons_refused r why = rw (code_of_64 r) (record {
@@ -329,12 +330,12 @@ module _ {P : Type 0} {cleaning : PolygonCleaning} {width : Width} {at : P → P
   })
 
   module _ {new_points : List P} {new_contours new_shapes : List ℕ} (fit : AreRefused width at points contours shapes old_points old_contours old_shapes None) where
-    -- how many are left
+    -- a call that succeeds returns the number of polygons left
     pub polygons_counted : (n : ℕ) → length old_shapes < 2 ^ 63 → AreShapesLeft cleaning.gives at (polygon_arrays points contours shapes) (polygon_arrays old_points old_contours old_shapes) (polygon_arrays new_points new_contours new_shapes) n
         → CleansPolygons cleaning width at (polygon_arrays points contours shapes) (polygon_arrays old_points old_contours old_shapes) (polygon_arrays new_points new_contours new_shapes) (to_z w64 n)
     polygons_counted n few left = rw (to_z_pos w64 n (omega (arith, left.fewer_shapes, fit.1.shapes_room, few))) (record { answer = left; refuses = not_refused fit n })
 
-    -- or that an allocation failed
+    -- a call that runs out of memory returns that code, and changes no array
     pub polygons_without_memory : (new_points ≡ old_points) × (new_contours ≡ old_contours) × (new_shapes ≡ old_shapes) → (cleaning.spares (polygons (map at points) contours shapes) → ⊥)
         → CleansPolygons cleaning width at (polygon_arrays points contours shapes) (polygon_arrays old_points old_contours old_shapes) (polygon_arrays new_points new_contours new_shapes) (to_z w64 (of_z w64 (to_z w32 (of_z w32 no_memory_code))))
     polygons_without_memory kept unspared = rw (code_of_64 NoMemory) (record { answer = (omega arith, kept.0, kept.1, kept.2); refuses = refused_memory fit unspared })

@@ -1,4 +1,4 @@
--- Why a call is refused, and the code that it then returns.
+-- Why a call fails, and the code that it then returns.
 use Rattle.std.proofs.Common.{◌≡◌, ◌↔◌, ◌<◌, ℕ, ℤ, pos, negsuc, Option, Some, None, refl, arith, to_z, of_z, FitsSigned, w32, w64}
 use Rattle.std.proofs.lemmas.Int.{to_z-of_z}
 use Rattle.i_shape_c.specs.Codes.{code_of, no_memory_code, IsRefusal, Refuses}
@@ -12,25 +12,25 @@ each_code Q BadOffsets each = each 1 (omega arith)
 each_code Q NoMemory each = each 2 (omega arith)
 each_code Q NoRoom each = each 3 (omega arith)
 
--- it has 32 bits
+-- each code fits 32 bits
 pub code_of_32 : (r : Refusal) → to_z w32 (of_z w32 (code_of r)) ≡ code_of r
 code_of_32 Unsafe = refl
 code_of_32 BadOffsets = refl
 code_of_32 NoMemory = refl
 code_of_32 NoRoom = refl
 
--- a code has 64 bits
+-- each code fits 64 bits
 pub code_of_64 : (r : Refusal) → to_z w64 (of_z w64 (to_z w32 (of_z w32 (code_of r)))) ≡ code_of r
 code_of_64 Unsafe = refl
 code_of_64 BadOffsets = refl
 code_of_64 NoMemory = refl
 code_of_64 NoRoom = refl
 
--- what has 32 bits, as the answer of a test, is the same in them
+-- a number that fits 32 bits is unchanged by the conversion
 pub same_32 : (z : ℤ) → FitsSigned w32 z → to_z w32 (of_z w32 z) ≡ z
 same_32 z fits = to_z-of_z w32 z fits
 
--- a refusal of what is the same
+-- `IsRefusal` carries over to equivalent conditions
 pub refusal_as : {P Q R S A B : Type 0} (r : Option Refusal) → P ↔ Q → R ↔ S → A ↔ B → IsRefusal P R A r → IsRefusal Q S B r
 refusal_as (Some BadOffsets) p r a why = λ q. why (p.1 q)
 refusal_as (Some NoRoom) p r a why = (p.0 why.0, λ s. why.1 (r.1 s))
@@ -38,12 +38,12 @@ refusal_as (Some Unsafe) p r a why = (p.0 why.0, r.0 why.1, λ b. why.2 (a.1 b))
 refusal_as (Some NoMemory) p r a why = why
 refusal_as None p r a why = (p.0 why.0, r.0 why.1, a.0 why.2)
 
--- what is the same as itself
+-- each proposition is equivalent to itself
 pub as_is : {P : Type 0} → P ↔ P
 as_is = (λ p. p, λ p. p)
 
 module _ {Parted Room Safe Spared : Type 0} where
-  -- a refusal returns its code
+  -- a call that fails returns its code
   pub refused : (r : Refusal) → IsRefusal Parted Room Safe (Some r) → Refuses Parted Room Safe Spared (code_of r)
   refused Unsafe why = record {
     bad_offsets = (λ is. absurd (cc), λ not. absurd (not why.0));
@@ -66,7 +66,7 @@ module _ {Parted Room Safe Spared : Type 0} where
   }
 
   module _ (fit : Parted × Room × Safe) where
-    -- if memory is refused, the call returns its code
+    -- a call that runs out of memory returns that code
     pub refused_memory : (Spared → ⊥) → Refuses Parted Room Safe Spared no_memory_code
     refused_memory unspared = record {
       bad_offsets = (λ is. absurd (cc), λ not. absurd (not fit.0));
@@ -75,7 +75,7 @@ module _ {Parted Room Safe Spared : Type 0} where
       memory = λ is. unspared;
     }
 
-    -- if nothing is refused, the call returns a number
+    -- a call that doesn't fail returns a number
     pub not_refused : (n : ℕ) → Refuses Parted Room Safe Spared (pos n)
     not_refused n = record {
       bad_offsets = (λ is. absurd (cc), λ not. absurd (not fit.0));

@@ -1,6 +1,6 @@
--- The form of polygons: the cleaned polygons, sorted, with the holes of each sorted.
+-- The form of polygons: the cleaned polygons, sorted, each with sorted holes.
 use Rattle.std.specs.Option.{option_cmp}
-use Rattle.std.proofs.Common.{◌≡◌, ℕ, ℤ, ◌+◌, List, [], ◌∷◌, length, drop, map, Option, Some, None, IsPermutation, IsSorted, refl, sym, ap, ap₂, ◌∙◌, subst, subst₂, arith, Ordering, IsSortedByKey, get_or, slice_get, option_and_then, is_lt, Less, Equal, Greater}
+use Rattle.std.proofs.Common.{◌≡◌, ℕ, ℤ, ◌+◌, ◌-◌, List, [], ◌∷◌, length, drop, map, Option, Some, None, IsPermutation, IsSorted, refl, sym, ap, ap₂, ◌∙◌, subst, subst₂, arith, Ordering, IsSortedByKey, get_or, slice_get, option_and_then, is_lt, Less, Equal, Greater}
 use Rattle.std.specs.Cmp.{IsTotalOrder}
 use Rattle.std.specs.Cmp.Lexicographic.{slice_cmp}
 use Rattle.std.specs.Ordering.{MatchOrdering, int_cmp, ordering_then}
@@ -10,20 +10,21 @@ use Rattle.std.proofs.lemmas.List.{take-map, drop-map, length-map}
 use Rattle.std.proofs.lemmas.List.Sorted.{IsPermutation-map, sum_by-IsPermutation}
 use Rattle.std.proofs.lemmas.List.Sums.{sum_by-cons, sum_by-take-drop}
 use Rattle.std.proofs.lemmas.Simd.{map-map}
-use Rattle.i_shape_core.proofs.forms.ContourOrder.{point_cmp, points_told, Tells, IsContourBefore, contours_told, contour_told}
+use Rattle.i_shape_core.proofs.Forms.ContourOrder.{point_cmp, points_told, Tells, IsContourBefore, contours_told, contour_told}
 use Rattle.i_shape_core.proofs.Common.{Point, point_of, IsBefore, IsAtMost}
 use Rattle.i_shape.specs.IntPoints.{IntPoint}
 use Rattle.i_shape.specs.Paths.{concatenated}
 use Rattle.i_shape.specs.CanonicalShapes.{ShapeForm, ListForm, IsShapeAtMost}
 use Rattle.i_shape.specs.ShapeAnswers.{Survivors, ShapeClean, ListClean}
-use Rattle.i_shape.proofs.lists.Fewer.{sum_by-one, sum_by-length, sum_by-concatenated}
-use Rattle.i_shape.proofs.shapes.SortedOrders.{shape_told, sorted_pairs}
+use Rattle.i_shape.proofs.Lists.Fewer.{sum_by-one, sum_by-length, sum_by-concatenated}
+use Rattle.i_shape.proofs.Shapes.SortedOrders.{shape_told, sorted_pairs}
+use Rattle.i_shape_c.specs.Batch.{offset}
 use Rattle.i_shape_c.specs.Polygons.{parts, polygons}
-use Rattle.i_shape_c.specs.Sorted.{SortsRest, SortsEachRest, SortsPolygons}
+use Rattle.i_shape_c.specs.Steps.Sorted.{SortsRest, SortsEachRest, SortsPolygons}
 use Rattle.i_shape_c.proofs.PolygonLists.{concatenated-map, parts-map}
 use Rattle.i_shape_c.proofs.PolygonsLeft.{read_counts}
 
--- where each answer is made into another, what is left is too
+-- if R turns each answer of A into one of B, it turns what A leaves into what B leaves
 survivors_made : {X Y Z : Type 0} (A : X → Option Y → Type 0) (B : X → Option Z → Type 0) (R : Y → Z → Type 0) → ((x : X) → A x None → B x None) → ((x : X) (y : Y) (z : Z) → A x (Some y) → R y z → B x (Some z))
     → (xs : List X) (ys : List Y) (zs : List Z) → Survivors A xs ys → AllZip R ys zs → Survivors B xs zs
 survivors_made {X} {Y} {Z} A B R none some xs ys zs (answers, zipped, are) made = go xs answers zs zipped (subst (λ w. AllZip R w zs) are made)
@@ -54,13 +55,13 @@ module _ (Form : List Point → Option (List Point) → Type 0) where
       let same : x ≡ y = cc in
       (subst (λ w. Form c (Some w)) same clean.0, (k, clean.1, sorts.same, sorts.sorted))
 
-  -- cleaned polygons that are sorted are the form of the polygons
+  -- cleaned polygons, sorted, are the form of the polygons
   pub form_of_cleaned : (given cleaned sorted : List (List (List Point))) → ListClean Form given cleaned → SortsPolygons cleaned sorted → ListForm Form given sorted
   form_of_cleaned given cleaned sorted clean sorts =
       (sorts.holes, survivors_made (ShapeClean Form) (ShapeForm Form) (SortsRest (AllPairs IsAtMost)) form_none form_some given cleaned sorts.holes clean sorts.holes_sorted, sorts.same, sorts.in_order)
 
--- a sum over the members is that over the members as they are made
-zip_sums : {X Y : Type 0} (R : X → Y → Type 0) (f : X → ℕ) (g : Y → ℕ) → ((x : X) (y : Y) → R x y → g y ≡ f x) → (xs : List X) (ys : List Y) → AllZip R xs ys → sum_by g ys ≡ sum_by f xs
+-- if related members have equal values, lists that are related member by member have equal sums
+pub zip_sums : {X Y : Type 0} (R : X → Y → Type 0) (f : X → ℕ) (g : Y → ℕ) → ((x : X) (y : Y) → R x y → g y ≡ f x) → (xs : List X) (ys : List Y) → AllZip R xs ys → sum_by g ys ≡ sum_by f xs
 zip_sums R f g same [] [] h = refl
 zip_sums R f g same [] (y ∷ ys) h = absurd h
 zip_sums R f g same (x ∷ xs) [] h = absurd h
@@ -76,7 +77,7 @@ polygons_sum f s t sorts =
     let holes = zip_sums (SortsRest (AllPairs IsAtMost)) (sum_by f) (sum_by f) (holes_sum f) s sorts.holes sorts.holes_sorted in
     omega (arith, sum_by-IsPermutation (sum_by f) sorts.holes t sorts.same, holes)
 
--- sorted polygons are as many, with as many contours and points
+-- sorting polygons keeps the number of polygons, contours and points
 pub sorted_counts : (s t : List (List (List Point))) → SortsPolygons s t
     → (length t ≡ length s) × (length (concatenated t) ≡ length (concatenated s)) × (length (concatenated (concatenated t)) ≡ length (concatenated (concatenated s)))
 sorted_counts s t sorts =
@@ -88,14 +89,14 @@ sorted_counts s t sorts =
       omega (arith, points, sum_by-concatenated length s, sum_by-concatenated length t, sum_by-length (concatenated s), sum_by-length (concatenated t)),
     )
 
--- lists whose items are paired stay so when both are made into others
+-- if f carries R to S, mapping pairwise related lists gives pairwise related lists
 zip_map : {X Y : Type 0} (R : X → X → Type 0) (S : Y → Y → Type 0) (f : X → Y) → ((x y : X) → R x y → S (f x) (f y)) → (xs ys : List X) → AllZip R xs ys → AllZip S (map f xs) (map f ys)
 zip_map R S f made [] [] h = tt
 zip_map R S f made [] (y ∷ ys) h = absurd h
 zip_map R S f made (x ∷ xs) [] h = absurd h
 zip_map R S f made (x ∷ xs) (y ∷ ys) h = (made x y h.0, zip_map R S f made xs ys h.1)
 
--- points of C are in the order of the points that they represent
+-- comparing points of C returns the order of the points that they represent
 pub points_in_order : {P I : Type 0} (value : I → ℤ) (point : P → IntPoint I) (coordinate_cmp : I → I → Ordering) (order : (a b : I) → coordinate_cmp a b ≡ int_cmp (value a) (value b)) (cmp : P → P → Ordering)
     → ((p q : P) → cmp p q ≡ point_cmp value coordinate_cmp order (point p) (point q)) → Tells cmp (λ p. point_of value (point p)) IsBefore
 points_in_order value point coordinate_cmp order cmp same p q =
@@ -106,11 +107,11 @@ map-map₂ : {X Y Z : Type 0} (f : Y → Z) (g : X → Y) (lists : List (List X)
 map-map₂ f g [] = refl
 map-map₂ f g (x ∷ xs) = ap₂ ◌∷◌ (map-map f g x) (map-map₂ f g xs)
 
--- what a polygon is sorted by: the first point of its outer ring, and then itself
+-- a polygon's sort key: the first point of its outer ring, and then itself
 abbrev pub keyed : {P B D : Type 0} → (B → List P) → (D → List B) → D → Option P × D
 keyed ring rings d = (option_and_then (λ b. slice_get (ring b) 0) (slice_get (rings d) 0), d)
 
--- lists of rings, and lists of these, as the program has them
+-- Lists of rings, and lists of these, as the program has them.
 module _ {P B D : Type 0} (ring : B → List P) (rings : D → List B) (at : P → Point) (cmp : P → P → Ordering) (told : Tells cmp at IsBefore) (total : IsTotalOrder cmp) where
   abbrev read : B → List Point
   read b = map at (ring b)
@@ -121,7 +122,7 @@ module _ {P B D : Type 0} (ring : B → List P) (rings : D → List B) (at : P �
   abbrev pub shape_cmp : D → D → Ordering
   shape_cmp x y = slice_cmp ring_cmp (rings x) (rings y)
 
-  -- polygons that are sorted by that point, and then by all, are sorted
+  -- polygons sorted by that key are sorted
   pub sorted_by_first : (sorted : List D) → IsSortedByKey (keyed ring rings) (λ x y. ordering_then (option_cmp cmp x.0 y.0) (shape_cmp x.1 y.1)) sorted → IsSorted shape_cmp sorted
   sorted_by_first sorted up k d low high = ap is_lt (sym (by_rings (rings (get_or sorted (k + 1) d)) (rings (get_or sorted k d)))) ∙ up k d low high
     where
@@ -163,7 +164,15 @@ module _ {P B D : Type 0} (ring : B → List P) (rings : D → List B) (at : P �
     sorted = rw (drop-map read 1 new) (sorted_pairs ring_cmp read IsAtMost ring_total (contour_told ring_cmp read ring_told) (drop 1 new) sorts.sorted);
   }
 
-  -- where the rings of each polygon are sorted but the first, and then the polygons, the polygons are sorted
+  -- where the rings of each polygon are sorted but the first, so are those that they are made into
+  pub rests_sorted : (old new : List B) (offsets : List ℕ) → SortsEachRest (IsSorted ring_cmp) old new offsets → SortsEachRest (AllPairs IsAtMost) (map read old) (map read new) offsets
+  rests_sorted old new offsets each = record {
+    each = rw (parts-map read old offsets, parts-map read new offsets) (zip_map (SortsRest (IsSorted ring_cmp)) (SortsRest (AllPairs IsAtMost)) (map read) rest_sorted (parts old offsets) (parts new offsets) each.each);
+    before = take-map read (offset offsets 0) new ∙ ap (map read) each.before ∙ sym (take-map read (offset offsets 0) old);
+    behind = drop-map read (offset offsets (length offsets - 1)) new ∙ ap (map read) each.behind ∙ sym (drop-map read (offset offsets (length offsets - 1)) old);
+  }
+
+  -- sorting each polygon's rings except the first, and then the polygons, sorts the polygons
   pub polygons_sorted : (old new : List B) (offsets : List ℕ) (made sorted : List D) → SortsEachRest (IsSorted ring_cmp) old new offsets → map rings made ≡ parts new offsets → IsPermutation made sorted → IsSorted shape_cmp sorted
       → SortsPolygons (map (map read) (parts old offsets)) (map (λ d. map read (rings d)) sorted)
   polygons_sorted old new offsets made sorted each are same up =
@@ -176,7 +185,7 @@ module _ {P B D : Type 0} (ring : B → List P) (rings : D → List B) (at : P �
         in_order = sorted_pairs shape_cmp shape IsShapeAtMost (on_total rings (lists_total ring_total)) (λ x y less. shape_told ring_cmp read ring_told (rings x) (rings y) less) sorted up;
       }
 
-  -- so they are, as they are read from arrays, with as many contours and points
+  -- the same of polygons read from arrays, which keep the number of contours and points
   pub made_sorted : (points : List P) (contours shapes : List ℕ) (old new : List B) (made sorted : List D) → map ring old ≡ parts points contours → SortsEachRest (IsSorted ring_cmp) old new shapes → map rings made ≡ parts new shapes → IsPermutation made sorted
       → IsSorted shape_cmp sorted → SortsPolygons (map (map (map at)) (polygons points contours shapes)) (map (map (map at)) (map (map ring) (map rings sorted)))
       × (length (concatenated (map rings sorted)) ≡ length (concatenated (polygons points contours shapes)))

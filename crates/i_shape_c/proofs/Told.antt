@@ -1,4 +1,4 @@
--- What holds of each contour that offsets divide.
+-- What holds of each contour that offsets delimit.
 use Rattle.std.proofs.Common.{◌≡◌, ◌∙◌, ℕ, ◌+◌, ◌<◌, ◌++◌, List, [], ◌∷◌, map, length, take, set, get_or, slice_range, ap, sym, subst, subst₂, Option, Some, None, arith}
 use Rattle.std.specs.List.{AllZip, range_with_len}
 use Rattle.std.proofs.lemmas.List.{take_more, take_more_set}
@@ -6,7 +6,7 @@ use Rattle.std.proofs.lemmas.List.FromFn.{map-range_with_len_more}
 use Rattle.std.proofs.lemmas.Slice.Zip.{all_zipped_more}
 use Rattle.i_shape_c.specs.Batch.{offset, nth_contour}
 
--- if R holds of each contour so far and the next, it holds of one more
+-- if R relates the first n contours to the first n items, writing item n extends this to n + 1
 pub told_more : {P X : Type 0} (R : List P → X → Type 0) (points : List P) (offsets : List ℕ) (out : List X) (n place : ℕ) (item : X) → place ≡ n + 1 → n < length out
     → AllZip R (map (nth_contour points offsets) (range_with_len 0 n)) (take n out)
     → R (slice_range points (offset offsets n) (offset offsets place)) item
@@ -16,13 +16,13 @@ told_more R points offsets out n place item next room told here =
     subst₂ (λ contours items. AllZip R contours items) (sym (map-range_with_len_more (nth_contour points offsets) 0 n n (let same : 0 + n ≡ n = omega arith in same))) (sym (take_more_set out n item room))
     (all_zipped_more R (map (nth_contour points offsets) (range_with_len 0 n)) (take n out) (nth_contour points offsets n) item told last)
 
--- if R holds of each item so far and the next, it holds of one more
+-- if R relates the first n items to the first n results, writing result n extends this to n + 1
 pub item_more : {P X : Type 0} (R : P → X → Type 0) (items : List P) (out : List X) (n : ℕ) (item : P) (told : X) → n < length items → item ≡ get_or items n item → n < length out
     → AllZip R (take n items) (take n out) → R item told → AllZip R (take (n + 1) items) (take (n + 1) (set out n told))
 item_more R items out n item told within read room before here =
     subst₂ (λ xs ys. AllZip R xs ys) (sym (take_more items n item within ∙ ap (λ x. take n items ++ x ∷ []) (sym read))) (sym (take_more_set out n told room))
     (all_zipped_more R (take n items) (take n out) item told before here)
 
--- what is something isn't nothing
+-- `Some x` isn't `None`
 pub not_none : {X : Type 0} (o : Option X) (x : X) → o ≡ Some x → o ≡ None → ⊥
 not_none o x some none = absurd (cc)

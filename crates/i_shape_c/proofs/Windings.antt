@@ -1,14 +1,14 @@
--- Sums of winding numbers over contours that offsets part.
+-- Sums of winding numbers over contours that offsets delimit.
 use Rattle.std.proofs.Common.{◌≡◌, ℕ, zero, suc, ◌+◌, ◌-◌, ◌^◌, ◌<◌, ◌≤◌, ◌++◌, List, length, map, take, drop, slice_range, FitsSigned, w64, ℤ, ◌+ℤ◌, ap, ap₂, sym, subst, ◌∙◌, arith}
 use Rattle.std.proofs.lemmas.List.{append_assoc, drop-drop, length-map, length-take-le, map-append}
 use Rattle.std.proofs.Math.Seq.{take-add, take-append_seam, drop-append_seam}
 use Rattle.std.specs.List.{range_with_len}
 use Rattle.std.proofs.lemmas.Int.{ints}
-use Rattle.i_shape_core.proofs.arithmetic.Products.{reach-fits}
+use Rattle.i_shape_core.proofs.Arithmetic.Products.{reach-fits}
 use Rattle.i_shape_c.specs.Windings.{no_winding}
 use Rattle.i_shape_core.proofs.Common.{sum_of, IsWithinHalf}
 
--- one place more is summed up
+-- the sum over n + 1 numbers from a on is that over n, plus f of the last
 sum_more : (f : ℕ → ℤ) (a n : ℕ) → sum_of f (range_with_len a (suc n)) ≡ sum_of f (range_with_len a n) +ℤ f (a + n)
 sum_more f a zero = let same : a + 0 ≡ a = omega arith in let one : f (a + 0) ≡ f a = ap f same in omega (arith, ints)
 sum_more f a (suc n) =
@@ -18,11 +18,11 @@ sum_more f a (suc n) =
     grouped : (x y z : ℤ) → x +ℤ (y +ℤ z) ≡ x +ℤ y +ℤ z
     grouped x y z = omega (arith, ints)
 
--- a sum over one place more has one more term
+-- the sum over the first n + 1 numbers is that over the first n, plus f n
 pub one_more : (f : ℕ → ℤ) (n : ℕ) → sum_of f (range_with_len 0 (suc n)) ≡ sum_of f (range_with_len 0 n) +ℤ f n
 one_more f n = sum_more f 0 n ∙ ap (λ (k : ℕ). sum_of f (range_with_len 0 n) +ℤ f k) (let same : 0 + n ≡ n = omega arith in same)
 
--- the sum stays within half of the points before the next contour
+-- adding a contour's winding number keeps the sum within half of the points so far
 pub half_more : (n m k : ℕ) (sum turns : ℤ) → IsWithinHalf n sum → IsWithinHalf m turns → n + m ≡ k → IsWithinHalf k (sum +ℤ turns)
 half_more n m k sum turns a b e =
     let most = a.most in
@@ -31,7 +31,7 @@ half_more n m k sum turns a b e =
     let less = b.least in
     record { most = omega (arith, ints); least = omega (arith, ints) }
 
--- a sum within half of the points fits
+-- a sum within half of the points fits 64 bits
 pub half_fits : (n : ℕ) (sum : ℤ) → n < 2 ^ 64 → IsWithinHalf n sum → FitsSigned w64 sum
 half_fits n sum few half =
     let most = half.most in
@@ -46,7 +46,7 @@ half_apart n sum few half e =
     omega (arith, ints)
 
 -- ---- batches
--- what is written of the points from place a to place b, behind what is written of those before
+-- writing the items of points a to b after those of the first a makes those of the first b
 pub batch_more : {P W : Type 0} (f : P → W) (about : List P) (a b : ℕ) (old out part new : List W) → a ≤ b → b ≤ length about
     → out ≡ map f (take a about) ++ drop a old → part ≡ map f (slice_range about a b) ++ drop (length (slice_range about a b)) (drop a out) → length (slice_range about a b) + a ≡ b
     → new ≡ take a out ++ part → new ≡ map f (take b about) ++ drop b old

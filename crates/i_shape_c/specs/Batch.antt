@@ -3,20 +3,11 @@ use Rattle.std.specs.Prelude.{◌≡◌, ℕ, ℤ, ◌+◌, ◌-◌, ◌<◌, �
 use Rattle.std.specs.Int.{Width}
 use Rattle.i_shape.specs.Point.{Point}
 use Rattle.i_shape.specs.Written.{slot, IsCleaned}
-use Rattle.i_shape_core.specs.Rings.{AreCleanedRings}
-pub use Rattle.i_shape_core.specs.Rings.{offset, nth_ring as nth_contour, AreRising, PartsPoints}
+use Rattle.i_shape.specs.Rings.{AreCleanedRings}
+pub use Rattle.i_shape.specs.Rings.{offset, nth_ring as nth_contour, AreRising, PartsPoints, RingArrays as ContourArrays, ring_arrays as contour_arrays}
 use Rattle.i_shape_c.specs.Cleaned.{AreSafe, TakesNoMemory}
-use Rattle.i_shape_c.specs.Cleaning.{Cleaning}
+use Rattle.i_shape.specs.Cleaning.{Cleaning}
 use Rattle.i_shape_c.specs.Codes.{Refuses}
-
--- points, and the offsets that divide them into contours
-pub record ContourArrays (P : Type 0) : Type 0 where
-  pub points : List P
-  pub offsets : List ℕ
-
--- these two arrays
-abbrev pub contour_arrays : {P : Type 0} → List P → List ℕ → ContourArrays P
-contour_arrays points offsets = record { points = points; offsets = offsets }
 
 -- there is room for as many points and offsets
 pub record HasRoom (points offsets out_points out_offsets : ℕ) : Type 0 where
@@ -34,8 +25,7 @@ AreSpared Spares point points offsets = (k : ℕ) → k + 1 < length offsets →
 -- each contour that the new offsets give is what the cleaner makes of the given one at the same index, empty where that
 -- collapses; there are n points in all, and what follows them and the offsets is unchanged
 abbrev pub IsCleanedBatch : {P : Type 0} → Cleaning → Width → (P → Point) → ContourArrays P → ContourArrays P → ContourArrays P → ℕ → Type 0
-IsCleanedBatch cleaning width point given old new =
-    AreCleanedRings (λ contour left. IsCleaned cleaning.answers cleaning.keeps width (map point contour) (slot (map point left))) given.points given.offsets old.points new.points old.offsets new.offsets
+IsCleanedBatch cleaning width point given old new = AreCleanedRings (λ contour left. IsCleaned cleaning width (map point contour) (slot (map point left))) given old new
 
 -- nothing is written
 pub record IsUntouched {P : Type 0} (old new : ContourArrays P) : Type 0 where

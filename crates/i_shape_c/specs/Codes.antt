@@ -7,7 +7,7 @@ use Rattle.i_shape_c.specs.declared.codes.Refusal.TheVariants.{Unsafe, BadOffset
 abbrev pub unsafe_code : ℤ
 unsafe_code = negsuc 0
 
--- the code of offsets that don't divide the points, and of a fill rule that isn't known
+-- the code of offsets that don't divide the points, and of an unknown fill rule
 abbrev pub bad_offsets_code : ℤ
 bad_offsets_code = negsuc 1
 
@@ -19,15 +19,15 @@ no_memory_code = negsuc 2
 abbrev pub no_room_code : ℤ
 no_room_code = negsuc 3
 
--- the code of each refusal
+-- the code of each reason for failing
 abbrev pub code_of : Refusal → ℤ
 code_of Unsafe = unsafe_code
 code_of BadOffsets = bad_offsets_code
 code_of NoMemory = no_memory_code
 code_of NoRoom = no_room_code
 
--- why a call is refused before it begins, in the order of its tests, or none where the offsets divide the points, there
--- is room, and the points are safe
+-- why a call fails before it begins, in the order of its tests, or none if the offsets divide the points, there is
+-- room, and the points are safe
 abbrev pub IsRefusal : Type 0 → Type 0 → Type 0 → Option Refusal → Type 0
 IsRefusal Parted Room Safe (Some BadOffsets) = Parted → ⊥
 IsRefusal Parted Room Safe (Some NoRoom) = Parted × (Room → ⊥)
@@ -35,8 +35,8 @@ IsRefusal Parted Room Safe (Some Unsafe) = Parted × Room × (Safe → ⊥)
 IsRefusal Parted Room Safe (Some NoMemory) = ⊥
 IsRefusal Parted Room Safe None = Parted × Room × Safe
 
--- exactly when a call returns which code, in the order of its tests; it returns the code of a failed allocation only
--- where `Spared` doesn't hold
+-- exactly when a call returns each code, in the order of its tests; it returns that of a failed allocation only if
+-- `Spared` doesn't hold
 pub record Refuses (Parted Room Safe Spared : Type 0) (result : ℤ) : Type 0 where
   pub bad_offsets : result ≡ bad_offsets_code ↔ (Parted → ⊥)
   pub no_room : result ≡ no_room_code ↔ (Parted × (Room → ⊥))

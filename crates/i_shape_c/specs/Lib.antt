@@ -1,13 +1,12 @@
 pub mod Points
 pub mod Codes
-pub mod Cleaning
 pub mod Cleaned
 pub mod Batch
 pub mod Places
 pub mod Polygons
 pub mod Compacted
-pub mod Appended
-pub mod Sorted
+pub mod Steps
+pub mod Formed
 pub mod Tests
 pub mod Areas
 pub mod Windings
@@ -15,3 +14,4 @@ pub mod Measures
 pub mod Locations
 pub mod Contacts
 pub mod Validity
+pub mod Holders

@@ -1,4 +1,4 @@
--- What the calls return that locate each of many points, by a fill rule.
+-- What the calls return that locate each of many points by a fill rule.
 use Rattle.std.specs.Prelude.{◌≡◌, ◌≢◌, ℕ, ℤ, ◌+◌, ◌<◌, ◌≤◌, pos, negsuc, zero, suc, List, map, length, take, drop, Option, Some, None, IfSome}
 use Rattle.std.specs.Int.{Width}
 use Rattle.std.specs.List.{AllZip}
@@ -7,8 +7,8 @@ use Rattle.i_shape.specs.Boundary.{IsOnEdge}
 use Rattle.i_shape.specs.Filling.{IsFilled}
 use Rattle.i_shape.specs.IntPoint.{IsSafe}
 use Rattle.i_shape.specs.Winding.{winding}
-use Rattle.i_shape_core.specs.declared.fill_rule.FillRule.{FillRule}
-use Rattle.i_shape_core.specs.declared.fill_rule.FillRule.TheVariants.{EvenOdd, NonZero, Positive, Negative}
+use Rattle.i_shape_core.specs.declared.measure.fill_rule.FillRule.{FillRule}
+use Rattle.i_shape_core.specs.declared.measure.fill_rule.FillRule.TheVariants.{EvenOdd, NonZero, Positive, Negative}
 use Rattle.i_shape_c.specs.Batch.{nth_contour, PartsPoints, AreSafeContours}
 use Rattle.i_shape_c.specs.Cleaned.{AreSafe}
 use Rattle.i_shape_c.specs.Codes.{Refuses}
@@ -24,28 +24,28 @@ rule_of (pos (suc (suc (suc zero)))) = Some Negative
 rule_of (pos (suc (suc (suc (suc n))))) = None
 rule_of (negsuc n) = None
 
--- p lies on an edge of one of the contours that the offsets give
+-- p lies on an edge of one of the contours that the offsets delimit
 pub record IsOnContours {P : Type 0} (point : P → Point) (points : List P) (offsets : List ℕ) (p : Point) : Type 0 where
   pub place : ℕ
   pub within : place + 1 < length offsets
   pub on : IsOnEdge (map point (nth_contour points offsets place)) p
 
--- 1 where the rule fills p, given the contours' total winding number about it, and otherwise 0
+-- 1 if the rule fills p, given the contours' total winding number about it, otherwise 0
 abbrev pub IsFilledByte : {P : Type 0} → (P → Point) → FillRule → List P → List ℕ → Point → ℕ → Type 0
 IsFilledByte point rule points offsets p byte = IsTold (IsFilled rule (contours_winding point points offsets p)) (pos byte)
 
--- 1 where the rule fills a point with the winding number `turns`, 0 where it doesn't, or a code
+-- 1 if the rule fills a point with winding number `turns`, 0 if it doesn't, or a code
 abbrev pub FillsAnswer : Option FillRule → ℤ → ℤ → Type 0
 FillsAnswer rule turns (pos n) = IfSome rule (λ r. IsTold (IsFilled r turns) (pos n))
 FillsAnswer rule turns (negsuc n) = n < 4
 
--- what a call returns that tests whether a rule fills a point, and exactly when it returns which code: none for memory
--- or room
+-- what a call returns that tests whether a rule fills a point, and exactly when it returns each code; it never returns
+-- those for memory and room
 pub record FillsPoint {P : Type 0} (width : Width) (point : P → Point) (points : List P) (about : Point) (rule result : ℤ) : Type 0 where
   pub answer : FillsAnswer (rule_of rule) (winding (map point points) about) result
   pub refuses : Refuses (rule_of rule ≢ None) (Unit {0}) (AreSafe width point points × IsSafe width about) (Unit {0}) result
 
--- 0 on the boundary, and elsewhere 1 inside and -1 outside
+-- 0 on the boundary, otherwise 1 inside and -1 outside
 abbrev pub IsLocation : Type 0 → Type 0 → ℤ → Type 0
 IsLocation On Filled (pos zero) = On
 IsLocation On Filled (pos (suc zero)) = (On → ⊥) × Filled
@@ -53,24 +53,24 @@ IsLocation On Filled (pos (suc (suc n))) = ⊥
 IsLocation On Filled (negsuc zero) = (On → ⊥) × (Filled → ⊥)
 IsLocation On Filled (negsuc (suc n)) = ⊥
 
--- the location of p, where inside is what the rule fills
+-- the location of p, inside being what the rule fills
 abbrev pub IsLocated : {P : Type 0} → (P → Point) → FillRule → List P → List ℕ → Point → ℤ → Type 0
 IsLocated point rule points offsets p code = IsLocation (IsOnContours point points offsets p) (IsFilled rule (contours_winding point points offsets p)) code
 
--- the new items begin with the result for each point, in order, and what follows these is unchanged
+-- the new items begin with the result for each point, in order, and are otherwise unchanged
 pub record AreTold {P X : Type 0} (Gives : Point → X → Type 0) (point : P → Point) (about : List P) (old new : List X) : Type 0 where
   pub each : AllZip (λ q. Gives (point q)) about (take (length about) new)
   pub rest : drop (length about) new ≡ drop (length about) old
 
--- what a call is asked about many points: points and the offsets that divide them into contours, the points that it is
--- asked about, and the code of a fill rule
+-- a call's query about many points: points, the offsets that divide them into contours, the points in question, and the
+-- code of a fill rule
 pub record Query (P : Type 0) : Type 0 where
   pub points : List P
   pub offsets : List ℕ
   pub about : List P
   pub rule : ℤ
 
--- a query of these parts
+-- the query of these parts
 abbrev pub query : {P : Type 0} → List P → List ℕ → List P → ℤ → Query P
 query points offsets about rule = record { points = points; offsets = offsets; about = about; rule = rule }
 
@@ -80,7 +80,7 @@ TellsAnswer Gives point asked old new (pos zero) = IfSome (rule_of asked.rule) (
 TellsAnswer Gives point asked old new (pos (suc n)) = ⊥
 TellsAnswer Gives point asked old new (negsuc n) = (n < 4) × (new ≡ old)
 
--- what a call writes for each of many points, and exactly when it returns which code: none for memory
+-- what a call writes for each of many points, and exactly when it returns each code; it never returns that for memory
 pub record TellsEach {P X : Type 0} (Gives : FillRule → List P → List ℕ → Point → X → Type 0) (width : Width) (point : P → Point) (asked : Query P) (old new : List X) (result : ℤ) : Type 0 where
   pub answer : TellsAnswer Gives point asked old new result
   pub refuses : Refuses ((rule_of asked.rule ≢ None) × PartsPoints (length asked.points) asked.offsets) (length asked.about ≤ length old)

@@ -1,11 +1,11 @@
--- Which point or offset a call refuses.
+-- At which point or offset a call fails.
 use Rattle.std.specs.Prelude.{ℕ, ◌+◌, ◌<◌, ◌≤◌, List, length, take}
 use Rattle.std.specs.Int.{Width}
 use Rattle.i_shape.specs.Point.{Point}
 use Rattle.i_shape_c.specs.Batch.{offset, AreRising}
 use Rattle.i_shape_c.specs.Cleaned.{AreSafe}
 
--- the items before the index are good, and no longer with the item at it; the index is `count` where all are good
+-- the first `place` items are good, and with the item at that index they aren't; it is `count` if all are good
 pub record IsFirstPlace (AreGood : ℕ → Type 0) (count place : ℕ) : Type 0 where
   pub within : place ≤ count
   pub before : AreGood place

@@ -19,7 +19,7 @@ polygon_offsets contours shapes k = slice_range contours (offset shapes k) (offs
 abbrev pub HasOffsetsRoom : List ℕ → ℕ → Type 0
 HasOffsetsRoom shapes room = (k : ℕ) → k + 1 < length shapes → offset shapes (k + 1) + 1 ≤ room + offset shapes k
 
--- the offsets, less the first of them
+-- the offsets, each less the first
 abbrev pub rebased : List ℕ → List ℕ
 rebased offsets = map (λ o. o - offset offsets 0) offsets
 
@@ -27,11 +27,11 @@ rebased offsets = map (λ o. o - offset offsets 0) offsets
 abbrev pub points_between : {P : Type 0} → List P → List ℕ → List P
 points_between points offsets = slice_range points (offset offsets 0) (offset offsets (length offsets - 1))
 
--- the fault of this kind at these places
+-- the fault of this kind at these indices
 abbrev pub fault : ℕ → ℕ → ℕ → Fault
 fault kind first second = record { kind = kind; first = first; second = second }
 
--- the fault of a polygon, at the places in all contours and points, of which its own begin with these
+-- a polygon's fault, shifted to the indices of all contours and points
 abbrev pub placed : ℕ → ℕ → Validity → Fault
 placed contour point Valid = fault 0 0 0
 placed contour point (TooFewPoints k) = fault 1 (contour + k) 0
@@ -39,17 +39,17 @@ placed contour point (Contact it) = fault 2 (point + it.first) (point + it.secon
 placed contour point (HoleOutside k) = fault 3 (contour + k) 0
 placed contour point (HoleWithin k j) = fault 4 (contour + k) (contour + j)
 
--- the fault is the first of the polygon that has these of the points, and whose contours begin with this one
+-- `written` is the first fault of the polygon whose contours have these offsets and begin at index `contour`
 pub record IsFaultOf (points : List Point) (offsets : List ℕ) (contour : ℕ) (written : Fault) : Type 0 where
   pub validity : Validity
   pub first : IsFirstFault (rebased offsets) (points_between points offsets) validity
   pub is : written ≡ placed contour (offset offsets 0) validity
 
--- the fault is the first of polygon k
+-- `written` is the first fault of polygon k
 abbrev pub IsFaultAt : {P : Type 0} → (P → Point) → PolygonArrays P → ℕ → Fault → Type 0
 IsFaultAt point given k = IsFaultOf (map point given.points) (polygon_offsets given.contours given.shapes k) (offset given.shapes k)
 
--- the new items begin with the first fault of each polygon, in order, and what follows these is unchanged
+-- the new items begin with the first fault of each polygon, in order, and are otherwise unchanged
 pub record AreFaults {P : Type 0} (point : P → Point) (given : PolygonArrays P) (old new : List Fault) : Type 0 where
   pub each : AllZip (IsFaultAt point given) (range_with_len 0 (length given.shapes - 1)) (take (length given.shapes - 1) new)
   pub rest : drop (length given.shapes - 1) new ≡ drop (length given.shapes - 1) old
@@ -60,8 +60,8 @@ FaultsAnswer point given old new (pos zero) = AreFaults point given old new
 FaultsAnswer point given old new (pos (suc n)) = ⊥
 FaultsAnswer point given old new (negsuc n) = (n < 4) × (new ≡ old)
 
--- what a call returns and writes for the first fault of each polygon, and exactly when it returns which code: none for
--- memory where there is no polygon
+-- what a call returns and writes for the first fault of each polygon, and exactly when it returns each code; without
+-- polygons it never returns that for memory
 pub record FindsFaults {P : Type 0} (width : Width) (point : P → Point) (given : PolygonArrays P) (old new : List Fault) (result : ℤ) : Type 0 where
   pub answer : FaultsAnswer point given old new result
   pub refuses : Refuses (PartsPolygons (length given.points) given.contours given.shapes) (length given.shapes - 1 ≤ length old) (AreSafeContours width point given.points given.contours) (length given.shapes ≡ 1) result

@@ -10,8 +10,8 @@ use crate::point::CPoint;
 use i_shape::IntNumber;
 use i_shape_core::area::area_of;
 
-/// Returns twice the signed area, positive where the contour runs counterclockwise, or `None` where there is no point.
-/// The points needn't be safe; a sum that doesn't fit wraps. Allocates nothing.
+/// Returns twice the signed area, positive if the contour runs counterclockwise, or `None` if there is no point. The
+/// points needn't be safe; a sum that doesn't fit wraps. Allocates nothing.
 pub fn area_two<P: CPoint>(points: &[P]) -> Option<<P::Coordinate as IntNumber>::Wide>
     ensures some { IsSome result ↔ (0 < length points.now) }
     ensures area { IfSome result (λ area. P.Coordinate.Wide.value area

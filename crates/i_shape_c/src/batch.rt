@@ -1,8 +1,7 @@
 //! Cleaning of many contours, which lie end to end in one array. Offsets divide the array into contours.
 
-ghost use Rattle.std.specs.Prelude.{◌≡◌, ◌≤◌, ◌↔◌, ◌^◌, ◌<◌, length, IsTrue, IfOk, OnErr};
+ghost use Rattle.std.specs.Prelude.{◌≤◌, ◌↔◌, ◌^◌, ◌<◌, length, IsTrue, IfOk, OnErr};
 ghost use Rattle.i_shape_c.specs.Batch.{contour_arrays, PartsPoints, HasRoom, AreSafeContours, AreSpared, IsCleanedBatch, IsUntouched, CleansContours};
-ghost use Rattle.i_shape_c.specs.Cleaning.{cleaning};
 ghost use Rattle.i_shape_c.specs.Cleaned.{TakesNoMemory, AreSafe};
 ghost use Rattle.i_shape_c.specs.Codes.{IsRefusal};
 ghost use Rattle.i_shape_c.specs.Points.{point_by};
@@ -12,8 +11,8 @@ use crate::places::first_bad_offset;
 use crate::point::CPoint;
 use i_shape::ShapeError;
 use i_shape::int::cleaner::ContourCleaner;
-pub use i_shape_core::rings::part;
-use i_shape_core::rings::try_clean_rings;
+pub use i_shape_core::batch::part;
+use i_shape_core::batch::try_clean_rings;
 use i_shape_core::safe_range::are_safe;
 use std::alloc::Global;
 
@@ -27,7 +26,7 @@ pub fn clean_contours<P: CPoint, C: ContourCleaner>(
     out_offsets: &mut [usize],
 ) -> isize
     requires { length out_points.old < 2 ^ 63 }
-    ensures { CleansContours (cleaning C.clean C.answers C.keeps C.picks C.fewest)
+    ensures { CleansContours C.meaning
         P.Coordinate.width (point_by P.Coordinate.value P.point)
         (contour_arrays points.now offsets.now) (contour_arrays out_points.old out_offsets.old)
         (contour_arrays out_points.new out_offsets.new) result }
@@ -55,7 +54,7 @@ pub fn has_room(points: usize, offsets: usize, out_points: usize, out_offsets: u
     points <= out_points && offsets <= out_offsets
 }
 
-/// Returns why a call on contours is refused, or `None` where the offsets divide safe points, and there is room.
+/// Returns why a call on contours fails, or `None` if the offsets divide safe points, and there is room.
 pub fn refusal<P: CPoint>(
     points: &[P],
     offsets: &[usize],
@@ -79,7 +78,7 @@ pub fn refusal<P: CPoint>(
     None
 }
 
-/// Returns why a call that writes an item for each point of `about` is refused, or `None` if it isn't.
+/// Returns why a call that writes an item for each point of `about` fails, or `None` if it doesn't.
 pub fn refusal_about<P: CPoint>(
     points: &[P],
     offsets: &[usize],
@@ -102,7 +101,7 @@ pub fn refusal_about<P: CPoint>(
     }
 }
 
-/// Returns whether the offsets divide that number of points.
+/// Returns whether the offsets divide so many points.
 pub fn are_parted(points: usize, offsets: &[usize]) -> bool
     ensures { IsTrue result ↔ PartsPoints points offsets.now }
 {
@@ -128,7 +127,7 @@ pub fn clean_all<P: CPoint, C: ContourCleaner>(
     requires points_safe { AreSafeContours P.Coordinate.width
         (point_by P.Coordinate.value P.point) points.now offsets.now }
     ensures ok { IfOk result
-        (IsCleanedBatch (cleaning C.clean C.answers C.keeps C.picks C.fewest) P.Coordinate.width
+        (IsCleanedBatch C.meaning P.Coordinate.width
         (point_by P.Coordinate.value P.point) (contour_arrays points.now offsets.now)
         (contour_arrays out_points.old out_offsets.old)
         (contour_arrays out_points.new out_offsets.new)) }
@@ -136,7 +135,7 @@ pub fn clean_all<P: CPoint, C: ContourCleaner>(
         (IsUntouched (contour_arrays out_points.old out_offsets.old)
         (contour_arrays out_points.new out_offsets.new)) }
     ensures memory { OnErr result
-        (AreSpared (TakesNoMemory C.fewest C.clean) (point_by P.Coordinate.value P.point)
+        (AreSpared (TakesNoMemory C.meaning.fewest C.meaning.clean) (point_by P.Coordinate.value P.point)
         points.now offsets.now → ⊥) }
 {
     try_clean_rings(&mut C::new(alloc), points, offsets, out_points, out_offsets)

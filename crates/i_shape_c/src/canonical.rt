@@ -4,10 +4,9 @@ ghost use Rattle.std.specs.Prelude.{◌≡◌, ◌+◌, ◌-◌, ◌^◌, ◌<�
 ghost use Rattle.i_shape.specs.CanonicalShapes.{ListForm};
 ghost use Rattle.i_shape.specs.Paths.{concatenated};
 ghost use Rattle.i_shape_c.specs.Batch.{AreSafeContours};
-ghost use Rattle.i_shape_c.specs.Cleaning.{cleaning};
 ghost use Rattle.i_shape_c.specs.Points.{point_by};
 ghost use Rattle.i_shape_c.specs.Polygons.{polygon_arrays, polygons, HaveNoContours, PartsPolygons, HasShapesRoom, AreShapesLeft, formed_by, CleansPolygons};
-ghost use Rattle.i_shape_c.specs.Sorted.{WritesSorted};
+ghost use Rattle.i_shape_c.specs.Steps.Sorted.{WritesSorted};
 
 use crate::batch::part;
 use crate::codes::Refusal;
@@ -30,7 +29,7 @@ pub fn form_shapes<P: CPoint, C: ContourCleaner>(
     out_shapes: &mut [usize],
 ) -> isize
     requires { length out_shapes.old < 2 ^ 63 }
-    ensures { CleansPolygons (formed_by (cleaning C.clean C.answers C.keeps C.picks C.fewest))
+    ensures { CleansPolygons (formed_by C.meaning)
         P.Coordinate.width (point_by P.Coordinate.value P.point)
         (polygon_arrays points.now contours.now shapes.now)
         (polygon_arrays out_points.old out_contours.old out_shapes.old)
@@ -77,7 +76,7 @@ fn write_forms<P: CPoint, C: ContourCleaner>(
     requires points_safe { AreSafeContours P.Coordinate.width
         (point_by P.Coordinate.value P.point) points.now contours.now }
     ensures ok { IfOk result
-        (λ n. AreShapesLeft (ListForm C.answers) (point_by P.Coordinate.value P.point)
+        (λ n. AreShapesLeft (ListForm C.meaning.answers) (point_by P.Coordinate.value P.point)
         (polygon_arrays points.now contours.now shapes.now)
         (polygon_arrays out_points.old out_contours.old out_shapes.old)
         (polygon_arrays out_points.new out_contours.new out_shapes.new) n) }
@@ -125,7 +124,7 @@ fn write_sorted_forms<P: CPoint, C: ContourCleaner>(
     requires points_safe { AreSafeContours P.Coordinate.width
         (point_by P.Coordinate.value P.point) points.now contours.now }
     ensures ok { IfOk result
-        (λ n. AreShapesLeft (ListForm C.answers) (point_by P.Coordinate.value P.point)
+        (λ n. AreShapesLeft (ListForm C.meaning.answers) (point_by P.Coordinate.value P.point)
         (polygon_arrays points.now contours.now shapes.now)
         (polygon_arrays out_points.old out_contours.old out_shapes.old)
         (polygon_arrays out_points.new out_contours.new out_shapes.new) n) }

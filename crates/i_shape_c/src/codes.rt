@@ -30,5 +30,8 @@ impl Refusal {
     }
 }
 
-/// Returned in place of a winding number where a point isn't safe.
+/// Returned in place of a winding number if a point isn't safe.
 pub const NO_WINDING: isize = isize::MIN;
+
+/// Written in place of a polygon's index where no polygon holds a point.
+pub const NO_SHAPE: usize = usize::MAX;

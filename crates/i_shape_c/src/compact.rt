@@ -1,7 +1,7 @@
-//! Which polygons and contours are left where contours that collapse are empty, as indices.
+//! Which polygons and contours are left, as indices, if collapsed contours are empty.
 
 ghost use Rattle.std.specs.Prelude.{◌≡◌, ◌↔◌, ◌+◌, ◌-◌, ◌<◌, ◌≤◌, length, IsTrue};
-ghost use Rattle.i_shape_c.specs.Appended.{IsPut};
+ghost use Rattle.i_shape_c.specs.Steps.Appended.{IsPut};
 ghost use Rattle.i_shape_c.specs.Batch.{PartsPoints};
 ghost use Rattle.i_shape_c.specs.Compacted.{has_points, is_left, contours_left, AreIndicesLeft, HasIndicesRoom, CompactsShapes};
 
@@ -100,8 +100,8 @@ fn is_left(contours: &[usize], shapes: &[usize], shape: usize) -> bool
     shapes[shape + 1] <= shapes[shape] || has_points(contours, shapes[shape])
 }
 
-/// Writes the indices of the contours that have points, of those from `start` up to `end`, to `out` from `place` on.
-/// Returns the place behind them.
+/// Writes the indices of the contours from `start` to before `end` that have points to `out`, from `place` on. Returns
+/// the index after them.
 fn append_contours(
     contours: &[usize],
     start: usize,

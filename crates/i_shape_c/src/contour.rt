@@ -1,7 +1,6 @@
 //! Cleaning of one contour, at any width and by any cleaner.
 
 ghost use Rattle.std.specs.Prelude.{◌^◌, ◌<◌, length};
-ghost use Rattle.i_shape_c.specs.Cleaning.{cleaning};
 ghost use Rattle.i_shape_c.specs.Cleaned.{CleansContour};
 ghost use Rattle.i_shape_c.specs.Points.{point_by};
 
@@ -11,15 +10,15 @@ use i_shape::int::cleaner::ContourCleaner;
 use i_shape_core::safe_range::are_safe;
 use std::alloc::Global;
 
-/// Writes the cleaned contour to the front of `out`. Returns how many points it has, 0 where the contour collapses, or
-/// a code below 0.
+/// Writes the cleaned contour to the front of `out`. Returns how many points it has, 0 if the contour collapses, or a
+/// code below 0.
 pub fn clean_contour<P: CPoint, C: ContourCleaner>(
     alloc: Global,
     points: &[P],
     out: &mut [P],
 ) -> isize
     requires { length out.old < 2 ^ 63 }
-    ensures { CleansContour (cleaning C.clean C.answers C.keeps C.picks C.fewest) P.Coordinate.width
+    ensures { CleansContour C.meaning P.Coordinate.width
         (point_by P.Coordinate.value P.point) points.now out.old out.new result }
 {
     if out.len() < points.len() {

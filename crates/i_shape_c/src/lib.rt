@@ -10,6 +10,8 @@ mod codes;
 mod compact;
 mod contacts;
 mod contour;
+mod forms;
+mod holders;
 mod lists;
 mod location;
 mod measures;

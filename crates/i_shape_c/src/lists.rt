@@ -2,10 +2,10 @@
 
 ghost use Rattle.std.specs.Prelude.{◌≡◌, ◌+◌, ◌≤◌, ◌<◌, length, map, IfOk, IsSorted};
 ghost use Rattle.i_shape.specs.Paths.{concatenated};
-ghost use Rattle.i_shape_c.specs.Appended.{IsPut};
+ghost use Rattle.i_shape_c.specs.Steps.Appended.{IsPut};
 ghost use Rattle.i_shape_c.specs.Batch.{PartsPoints};
 ghost use Rattle.i_shape_c.specs.Polygons.{parts, offsets_of};
-ghost use Rattle.i_shape_c.specs.Sorted.{SortsRest, SortsEachRest};
+ghost use Rattle.i_shape_c.specs.Steps.Sorted.{SortsRest, SortsEachRest};
 
 use crate::batch::part;
 use std::alloc::{AllocError, Global};
@@ -30,7 +30,8 @@ pub fn slices<'a, T: Copy>(
     Ok(lists)
 }
 
-/// Sorts the items of each list into which the offsets divide them, except for its first item. The items outside stay.
+/// Sorts the items of each list into which the offsets divide them, except for its first item. The items outside are
+/// unchanged.
 pub fn sort_each_rest<T: Ord>(items: &mut [T], offsets: &[usize])
     requires { PartsPoints (length items.old) offsets.now }
     ensures sorted { SortsEachRest (IsSorted T.cmp) items.old items.new offsets.now }

@@ -23,7 +23,7 @@ use std::alloc::{AllocError, Global};
 
 /// What a call reports about a point, given a fill rule.
 pub trait Telling<P: CPoint>: Copy {
-    ghost use Rattle.i_shape_core.specs.declared.fill_rule.FillRule.{FillRule};
+    ghost use Rattle.i_shape_core.specs.declared.measure.fill_rule.FillRule.{FillRule};
 
     type Answer: Copy;
 
@@ -133,7 +133,7 @@ fn is_on_contours<P: CPoint>(
 }
 
 /// Returns the fill rule of a code, or `None` where there is none.
-fn rule_of(code: i32) -> Option<FillRule>
+pub fn rule_of(code: i32) -> Option<FillRule>
     ensures { result ≡ rule_of code }
 {
     match code {
@@ -166,7 +166,7 @@ pub fn contains_by<P: CPoint>(points: &[P], given: P, code: i32) -> i32
 }
 
 /// Returns whether the rule fills a point about which contours have this winding number.
-fn fills(rule: FillRule, turns: isize) -> bool
+pub fn fills(rule: FillRule, turns: isize) -> bool
     ensures { IsTrue result ↔ IsFilled rule turns }
 {
     rule.fills(turns as i128)

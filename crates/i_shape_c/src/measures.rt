@@ -35,6 +35,7 @@ pub trait ContourMeasure<P: CPoint>: Copy {
     fn admits(self, points: &[P]) -> bool
         ensures { IsTrue result ↔ All (asked self) points.now };
 
+    /// Returns the result for a contour whose points `admits` accepts.
     fn measure(self, contour: &[P]) -> Self::Answer
         requires can { can_measure self }
         requires points { All (asked self) contour.now }

@@ -1,11 +1,11 @@
-//! The first point or offset that a call refuses.
+//! The first point or offset at which a call fails.
 
 ghost use Rattle.i_shape_c.specs.Places.{IsFirstUnsafe, IsFirstBadOffset};
 ghost use Rattle.i_shape_c.specs.Points.{point_by};
 
 use crate::point::CPoint;
 
-/// Returns the index of the first point that isn't safe, or the number of points where each is safe.
+/// Returns the index of the first point that isn't safe, or the number of points if each is safe.
 pub fn first_unsafe<P: CPoint>(points: &[P]) -> usize
     ensures { IsFirstUnsafe P.Coordinate.width (point_by P.Coordinate.value P.point)
         points.now result }
@@ -19,7 +19,7 @@ pub fn first_unsafe<P: CPoint>(points: &[P]) -> usize
 }
 
 /// Returns the index of the first offset that is below the one before it or above the number of points. Returns the
-/// number of offsets where none is, so also where there are no offsets.
+/// number of offsets if none is, which may be 0.
 pub fn first_bad_offset(points: usize, offsets: &[usize]) -> usize
     ensures { IsFirstBadOffset points offsets.now result }
 {
@@ -34,8 +34,8 @@ pub fn first_bad_offset(points: usize, offsets: &[usize]) -> usize
     offsets.len()
 }
 
-/// Returns the index of the first offset that is below the one before it or above `count`, or the number of offsets
-/// where none is.
+/// Returns the index of the first offset that is below the one before it or above `count`, or the number of offsets if
+/// none is.
 #[unsafe(no_mangle)]
 pub extern "C" fn i_shape_first_bad_offset(count: usize, offsets: &[usize]) -> usize
     ensures { IsFirstBadOffset count offsets.now result }

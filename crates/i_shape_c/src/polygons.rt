@@ -4,9 +4,8 @@
 ghost use Rattle.std.specs.Prelude.{◌≡◌, ◌↔◌, ◌+◌, ◌-◌, ◌^◌, ◌<◌, ◌≤◌, ℕ, length, map, IfOk, OnErr, IsTrue};
 ghost use Rattle.i_shape.specs.Reading.{read};
 ghost use Rattle.i_shape.specs.ShapeAnswers.{ListClean, EachShape};
-ghost use Rattle.i_shape_c.specs.Appended.{HasPolygonsRoom, IsReady, AreReady, AppendsRingLeft, AppendsShapeLeft, WritesLeft};
+ghost use Rattle.i_shape_c.specs.Steps.Appended.{HasPolygonsRoom, IsReady, AreReady, AppendsRingLeft, AppendsShapeLeft, WritesLeft};
 ghost use Rattle.i_shape_c.specs.Batch.{contour_arrays, offset, AreRising, PartsPoints, AreSafeContours};
-ghost use Rattle.i_shape_c.specs.Cleaning.{cleaning};
 ghost use Rattle.i_shape_c.specs.Cleaned.{TakesNoMemory};
 ghost use Rattle.i_shape_c.specs.Codes.{IsRefusal};
 ghost use Rattle.i_shape_c.specs.Polygons.{polygon_arrays, parts, polygons, PartsPolygons, HasShapesRoom, AreShapesLeft, cleaned_by, CleansPolygons};
@@ -17,7 +16,7 @@ use crate::codes::Refusal;
 use crate::point::CPoint;
 use i_shape::ShapeError;
 use i_shape::int::cleaner::ContourCleaner;
-use i_shape_core::rings::{clean_at, make_room};
+use i_shape_core::batch::{clean_at, make_room};
 use std::alloc::Global;
 
 /// Writes the cleaned polygons to the front of the three arrays. Returns how many there are, or a code below 0.
@@ -31,7 +30,7 @@ pub fn clean_shapes<P: CPoint, C: ContourCleaner>(
     out_shapes: &mut [usize],
 ) -> isize
     requires { length out_shapes.old < 2 ^ 63 }
-    ensures { CleansPolygons (cleaned_by (cleaning C.clean C.answers C.keeps C.picks C.fewest))
+    ensures { CleansPolygons (cleaned_by C.meaning)
         P.Coordinate.width (point_by P.Coordinate.value P.point)
         (polygon_arrays points.now contours.now shapes.now)
         (polygon_arrays out_points.old out_contours.old out_shapes.old)
@@ -61,8 +60,8 @@ pub fn clean_shapes<P: CPoint, C: ContourCleaner>(
     }
 }
 
-/// Returns why a call on polygons is refused, or `None` where the offsets divide safe points, and there is room for as
-/// many of each.
+/// Returns why a call on polygons fails, by the first of: offsets that don't divide the points or the contours, room
+/// for fewer points or offsets than are given, a point that isn't safe. Returns `None` if nothing is wrong.
 pub fn refusal<P: CPoint>(
     points: &[P],
     contours: &[usize],
@@ -132,13 +131,13 @@ pub fn write_cleaned<P: CPoint, C: ContourCleaner>(
     requires points_safe { AreSafeContours P.Coordinate.width
         (point_by P.Coordinate.value P.point) points.now contours.now }
     ensures ok { IfOk result
-        (λ n. AreShapesLeft (ListClean C.answers) (point_by P.Coordinate.value P.point)
+        (λ n. AreShapesLeft (ListClean C.meaning.answers) (point_by P.Coordinate.value P.point)
         (polygon_arrays points.now contours.now shapes.now)
         (polygon_arrays out_points.old out_contours.old out_shapes.old)
         (polygon_arrays out_points.new out_contours.new out_shapes.new) n) }
     ensures err { OnErr result ((out_points.new ≡ out_points.old)
         × (out_contours.new ≡ out_contours.old) × (out_shapes.new ≡ out_shapes.old)) }
-    ensures memory { OnErr result (EachShape (TakesNoMemory C.fewest C.clean) (polygons
+    ensures memory { OnErr result (EachShape (TakesNoMemory C.meaning.fewest C.meaning.clean) (polygons
         (map (point_by P.Coordinate.value P.point) points.now) contours.now shapes.now) → ⊥) }
 {
     let end = shapes[shapes.len() - 1] + 1;
@@ -178,7 +177,7 @@ fn write_polygons<P: CPoint, C: ContourCleaner>(
     out_shapes: &mut [usize],
 ) -> usize
     requires parted { PartsPoints (length points.now) rings.now }
-    requires ready { AreReady C.clean P.Coordinate.width
+    requires ready { AreReady C.meaning.clean P.Coordinate.width
         (read P.Coordinate.value P.points) all_clean
         (C.has_room cleaner.old) points.now rings.now }
     requires shapes_some { 0 < length shapes.now }
@@ -189,7 +188,7 @@ fn write_polygons<P: CPoint, C: ContourCleaner>(
         ≤ length out_points.old + offset rings.now 0 }
     requires contours_room { length rings.now ≤ length out_contours.old }
     requires shapes_room { length shapes.now ≤ length out_shapes.old }
-    ensures { WritesLeft C.answers (point_by P.Coordinate.value P.point)
+    ensures { WritesLeft C.meaning.answers (point_by P.Coordinate.value P.point)
         (polygon_arrays points.now rings.now shapes.now)
         (polygon_arrays out_points.old out_contours.old out_shapes.old)
         (polygon_arrays out_points.new out_contours.new out_shapes.new) result }
@@ -218,8 +217,8 @@ fn write_polygons<P: CPoint, C: ContourCleaner>(
     counts.shapes
 }
 
-/// Writes the cleaned polygon behind those already written: nothing where its outer contour collapses, and otherwise
-/// the contours that don't collapse. Returns the new counts.
+/// Writes the cleaned polygon after those already written: nothing if its outer contour collapses, otherwise the
+/// contours that don't collapse. Returns the new counts.
 fn append_polygon<P: CPoint, C: ContourCleaner>(
     cleaner: &mut C,
     points: &[P],
@@ -231,14 +230,14 @@ fn append_polygon<P: CPoint, C: ContourCleaner>(
     counts: Counts,
 ) -> Counts
     requires parted { PartsPoints (length points.now) rings.now }
-    requires ready { AreReady C.clean P.Coordinate.width
+    requires ready { AreReady C.meaning.clean P.Coordinate.width
         (read P.Coordinate.value P.points) all_clean
         (C.has_room cleaner.old) points.now rings.now }
     requires points_room { counts.points + offset rings.now (length rings.now - 1)
         ≤ length out_points.old + offset rings.now 0 }
     requires contours_room { counts.contours + length rings.now ≤ length out_contours.old }
     requires shapes_room { counts.shapes + 1 < length out_shapes.old }
-    ensures left { AppendsShapeLeft C.answers (point_by P.Coordinate.value P.point)
+    ensures left { AppendsShapeLeft C.meaning.answers (point_by P.Coordinate.value P.point)
         (parts points.now rings.now)
         (polygon_arrays out_points.old out_contours.old out_shapes.old)
         (polygon_arrays out_points.new out_contours.new out_shapes.new) counts result }
@@ -264,7 +263,7 @@ fn append_polygon<P: CPoint, C: ContourCleaner>(
     }
 }
 
-/// Writes the cleaned contour behind those already written, or nothing where it collapses. Returns the new counts.
+/// Writes the cleaned contour after those already written, or nothing if it collapses. Returns the new counts.
 fn append_ring<P: CPoint, C: ContourCleaner>(
     cleaner: &mut C,
     ring: &[P],
@@ -273,11 +272,11 @@ fn append_ring<P: CPoint, C: ContourCleaner>(
     out_contours: &mut [usize],
     counts: Counts,
 ) -> Counts
-    requires ready { IsReady C.clean P.Coordinate.width (read P.Coordinate.value P.points) is_clean
+    requires ready { IsReady C.meaning.clean P.Coordinate.width (read P.Coordinate.value P.points) is_clean
         (C.has_room cleaner.old) ring.now }
     requires points_room { counts.points + length ring.now ≤ length out_points.old }
     requires contours_room { counts.contours + 1 < length out_contours.old }
-    ensures left { AppendsRingLeft C.answers (point_by P.Coordinate.value P.point) ring.now
+    ensures left { AppendsRingLeft C.meaning.answers (point_by P.Coordinate.value P.point) ring.now
         (contour_arrays out_points.old out_contours.old)
         (contour_arrays out_points.new out_contours.new) counts result }
     ensures fewer_points { result.points ≤ counts.points + length ring.now }

@@ -52,7 +52,7 @@ impl<I: IntNumber> ContourTest<I> for Simple {
     }
 }
 
-/// Whether there are at least three points, consecutive duplicates counted once, and the contour nowhere turns back.
+/// Whether there are at least three points, consecutive duplicates counted once, and the contour never turns back.
 #[derive(Clone, Copy)]
 pub struct Spikeless {}
 
@@ -66,7 +66,7 @@ impl<I: IntNumber> ContourTest<I> for Spikeless {
     }
 }
 
-/// Whether there are at most two points, consecutive duplicates counted once, or the contour nowhere turns back and
+/// Whether there are at most two points, consecutive duplicates counted once, or the contour never turns back and
 /// doesn't turn both left and right.
 #[derive(Clone, Copy)]
 pub struct Bulging {}
@@ -81,7 +81,7 @@ impl<I: IntNumber> ContourTest<I> for Bulging {
     }
 }
 
-/// Whether there are at least three points, not all equal, and no two edges are in contact. Where memory is refused, the
+/// Whether there are at least three points, not all equal, and no two edges are in contact. If memory runs out, the
 /// result is the same.
 #[derive(Clone, Copy)]
 pub struct SimplePolygon {

@@ -22,7 +22,7 @@ pub struct Fault {
     pub second: usize,
 }
 
-/// The kind where there is no fault.
+/// The kind if there is no fault.
 const VALID: usize = 0;
 
 /// The kind of a contour, `first`, that has fewer than three points, or all of whose points are equal.
@@ -38,7 +38,7 @@ const HOLE_OUTSIDE: usize = 3;
 const HOLE_WITHIN: usize = 4;
 
 /// Writes the first fault of each polygon to the front of `out`. Returns 0, or a code below 0. Memory for a copy of the
-/// offsets of one polygon is needed; where other memory is refused, the result is the same.
+/// offsets of one polygon is needed; if other memory runs out, the result is the same.
 pub fn find_faults<P: CPoint>(
     alloc: Global,
     points: &[P],
@@ -135,7 +135,7 @@ fn most_offsets(shapes: &[usize]) -> usize
     most
 }
 
-/// Returns the first fault of the polygon whose contours the offsets give, the first of them of this index. `own` has
+/// Returns the first fault of the polygon whose contours the offsets delimit, and begin at index `contour`. `own` has
 /// room for the offsets.
 fn fault_of<P: CPoint>(
     alloc: Global,

@@ -1,9 +1,9 @@
-//! Winding numbers of contours about points, at any width. Calls for many points allocate memory where that saves time,
-//! and do without it where the allocation fails.
+//! Winding numbers of contours about points, at any width. Calls for many points allocate memory if that saves time,
+//! and do without it if the allocation fails.
 
 ghost use Rattle.std.specs.Prelude.{◌≡◌, ◌≤◌, ◌++◌, length, map, drop, OnOk, OnErr};
 ghost use Rattle.std.specs.List.{All};
-ghost use Rattle.i_shape_core.specs.Heights.{asked_points, IsRising, IsAdded, AllFit};
+ghost use Rattle.i_shape.specs.Heights.{asked_points, IsRising, IsAdded, AllFit};
 ghost use Rattle.i_shape.specs.IntPoint.{point_of, IsSafe};
 ghost use Rattle.i_shape_c.specs.Cleaned.{AreSafe};
 ghost use Rattle.i_shape_c.specs.Batch.{contour_arrays, PartsPoints, AreSafeContours};
@@ -29,7 +29,7 @@ const FEWEST_EDGES: usize = 64;
 /// The smallest batch of points that are sorted at once, unless fewer are asked about.
 const LEAST_BATCH: usize = 65_536;
 
-/// Returns the contour's winding number about the point, or `NO_WINDING` where a point isn't safe.
+/// Returns the contour's winding number about the point, or `NO_WINDING` if a point isn't safe.
 pub fn winding<P: CPoint>(points: &[P], given: P) -> isize
     ensures { WindsAbout P.Coordinate.width (point_by P.Coordinate.value P.point)
         points.now (point_by P.Coordinate.value P.point given) result }
@@ -60,7 +60,7 @@ pub fn windings<P: CPoint>(
 }
 
 /// Writes the contours' total winding number about each point of `about`, in batches of as many points as the contours
-/// have, and no fewer than `LEAST_BATCH`.
+/// have, and at least `LEAST_BATCH`.
 pub fn wind_in_batches<P: CPoint>(
     alloc: Global,
     points: &[P],
@@ -92,7 +92,7 @@ pub fn wind_in_batches<P: CPoint>(
     }
 }
 
-/// Writes the contours' total winding number about each point of `about`. Sorts the points by height where that saves
+/// Writes the contours' total winding number about each point of `about`. Sorts the points by height if that saves
 /// time.
 fn wind_batch<P: CPoint>(
     alloc: Global,

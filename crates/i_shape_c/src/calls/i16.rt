@@ -6,7 +6,7 @@ ghost use Rattle.i_shape.specs.Contour.{IsSimple};
 ghost use Rattle.i_shape.specs.Convex.{Convex, NoSpikes};
 ghost use Rattle.i_shape_contacts.specs.Contacts.{IsSimplePolygon};
 ghost use Rattle.i_shape_c.specs.Points.{point_i16};
-ghost use Rattle.i_shape_c.specs.Cleaning.{simplifying, despiking, removing_spikes, canonicalizing, canonicalizing_unoriented};
+ghost use Rattle.i_shape.specs.Cleaning.{simplifying, despiking, removing_spikes, canonicalizing, canonicalizing_unoriented};
 ghost use Rattle.i_shape_c.specs.Cleaned.{AreSafe, CleansContour};
 ghost use Rattle.i_shape_c.specs.Batch.{contour_arrays, CleansContours};
 ghost use Rattle.i_shape_c.specs.Areas.{IsDoubleArea};
@@ -15,14 +15,18 @@ ghost use Rattle.i_shape_c.specs.Polygons.{polygon_arrays, cleaned_by, formed_by
 ghost use Rattle.i_shape_c.specs.Windings.{WindsAbout, WindsAboutEach};
 ghost use Rattle.i_shape_c.specs.Locations.{query, FillsPoint, IsFilledByte, IsLocated, TellsEach};
 ghost use Rattle.i_shape_c.specs.Places.{IsFirstUnsafe};
-ghost use Rattle.i_shape_c.specs.Contacts.{FindsContact, FindsRingContact};
+ghost use Rattle.i_shape_c.specs.Contacts.{FindsContact, FindsContacts, FindsRingContact, FindsRingContacts};
 ghost use Rattle.i_shape_c.specs.Validity.{FindsFaults};
+ghost use Rattle.i_shape_c.specs.Formed.{FormsEach};
+ghost use Rattle.i_shape_c.specs.Holders.{FindsHolders};
 
 use crate::area::area_two;
 use crate::batch::clean_contours;
 use crate::canonical::form_shapes;
-use crate::contacts::{find_contact, find_contact_of_rings};
+use crate::contacts::{find_contact, find_contact_of_rings, find_contacts, find_contacts_of_rings};
 use crate::contour::clean_contour;
+use crate::forms::form_polygons;
+use crate::holders::find_holders;
 use crate::location::{Filled, Located, contains_by, tell_points};
 use crate::places::first_unsafe;
 use crate::point::PointI16;
@@ -35,9 +39,10 @@ use crate::winding::{winding, windings};
 use i_shape::int::cleaner::{Canonicalizer, SpikeRemover, UnorientedCanonicalizer};
 use i_shape::int::despike::ContourDeSpiker;
 use i_shape::int::simple::ContourSimplifier;
+use i_shape_contacts::Contact;
 use std::alloc::Global;
 
-/// Removes zero turns from the contour. Returns how many points are written to the front of `out`, 0 where the contour
+/// Removes zero turns from the contour. Returns how many points are written to the front of `out`, 0 if the contour
 /// collapses, or a code below 0.
 #[unsafe(no_mangle)]
 pub extern "C" fn i_shape_simplify_i16(
@@ -50,8 +55,8 @@ pub extern "C" fn i_shape_simplify_i16(
     clean_contour::<PointI16, ContourSimplifier>(alloc, points, out)
 }
 
-/// Removes spikes and repeated points from the contour. Returns how many points are written to the front of `out`, 0
-/// where the contour collapses, or a code below 0.
+/// Removes spikes and repeated points from the contour. Returns how many points are written to the front of `out`, 0 if
+/// the contour collapses, or a code below 0.
 #[unsafe(no_mangle)]
 pub extern "C" fn i_shape_despike_i16(
     alloc: Global,
@@ -64,7 +69,7 @@ pub extern "C" fn i_shape_despike_i16(
 }
 
 /// Writes the canonical form: the least rotation of the contour without zero turns. Returns how many points are written
-/// to the front of `out`, 0 where the contour collapses, or a code below 0.
+/// to the front of `out`, 0 if the contour collapses, or a code below 0.
 #[unsafe(no_mangle)]
 pub extern "C" fn i_shape_canonical_i16(
     alloc: Global,
@@ -77,8 +82,7 @@ pub extern "C" fn i_shape_canonical_i16(
 }
 
 /// Writes the canonical form without regard to direction: the lesser of the canonical forms of the contour and of its
-/// reverse. Returns how many points are written to the front of `out`, 0 where the contour collapses, or a code below
-/// 0.
+/// reverse. Returns how many points are written to the front of `out`, 0 if the contour collapses, or a code below 0.
 #[unsafe(no_mangle)]
 pub extern "C" fn i_shape_canonical_unoriented_i16(
     alloc: Global,
@@ -90,7 +94,7 @@ pub extern "C" fn i_shape_canonical_unoriented_i16(
     clean_contour::<PointI16, UnorientedCanonicalizer>(alloc, points, out)
 }
 
-/// Writes for each contour a result of `i_shape_simplify_i16`, empty where it collapses. Returns how many points are
+/// Writes for each contour a result of `i_shape_simplify_i16`, empty if it collapses. Returns how many points are
 /// written, or a code below 0.
 #[unsafe(no_mangle)]
 pub extern "C" fn i_shape_simplify_contours_i16(
@@ -107,7 +111,7 @@ pub extern "C" fn i_shape_simplify_contours_i16(
     clean_contours::<PointI16, ContourSimplifier>(alloc, points, offsets, out_points, out_offsets)
 }
 
-/// Writes for each contour a result of `i_shape_despike_i16`, empty where it collapses. Returns how many points are
+/// Writes for each contour a result of `i_shape_despike_i16`, empty if it collapses. Returns how many points are
 /// written, or a code below 0.
 #[unsafe(no_mangle)]
 pub extern "C" fn i_shape_despike_contours_i16(
@@ -124,7 +128,7 @@ pub extern "C" fn i_shape_despike_contours_i16(
     clean_contours::<PointI16, ContourDeSpiker>(alloc, points, offsets, out_points, out_offsets)
 }
 
-/// Writes for each contour a result of `i_shape_canonical_i16`, empty where it collapses. Returns how many points are
+/// Writes for each contour a result of `i_shape_canonical_i16`, empty if it collapses. Returns how many points are
 /// written, or a code below 0.
 #[unsafe(no_mangle)]
 pub extern "C" fn i_shape_canonical_contours_i16(
@@ -141,8 +145,9 @@ pub extern "C" fn i_shape_canonical_contours_i16(
     clean_contours::<PointI16, Canonicalizer>(alloc, points, offsets, out_points, out_offsets)
 }
 
-/// Writes for each contour a result of `i_shape_canonical_unoriented_i16`, empty where it collapses. Returns how many
-/// points are written, or a code below 0.
+/// Writes the unoriented canonical form of each contour, empty if it collapses, end to end to the front of
+/// `out_points`, and their offsets, from 0 on, to `out_offsets`. Returns how many points are written, or a code
+/// below 0.
 #[unsafe(no_mangle)]
 pub extern "C" fn i_shape_canonical_unoriented_contours_i16(
     alloc: Global,
@@ -283,7 +288,7 @@ pub extern "C" fn i_shape_is_simple_i16(points: &[PointI16]) -> i32
     test_contour(points, Simple {})
 }
 
-/// Returns whether there are at least three points, consecutive duplicates counted once, and the contour nowhere turns
+/// Returns whether there are at least three points, consecutive duplicates counted once, and the contour never turns
 /// back: 1 or 0, or a code below 0.
 #[unsafe(no_mangle)]
 pub extern "C" fn i_shape_has_no_spikes_i16(points: &[PointI16]) -> i32
@@ -292,7 +297,7 @@ pub extern "C" fn i_shape_has_no_spikes_i16(points: &[PointI16]) -> i32
     test_contour(points, Spikeless {})
 }
 
-/// Returns whether there are at most two points, consecutive duplicates counted once, or the contour nowhere turns back
+/// Returns whether there are at most two points, consecutive duplicates counted once, or the contour never turns back
 /// and doesn't turn both left and right: 1 or 0, or a code below 0.
 #[unsafe(no_mangle)]
 pub extern "C" fn i_shape_is_convex_i16(points: &[PointI16]) -> i32
@@ -335,8 +340,8 @@ pub extern "C" fn i_shape_contains_points_i16(
     tell_points::<PointI16, Filled>(alloc, points, offsets, about, rule, out)
 }
 
-/// Writes where each point of `about` lies: 0 on an edge; elsewhere 1 where the fill rule fills it, and -1 where it
-/// doesn't. Returns 0, or a code below 0.
+/// Writes where each point of `about` lies: 0 on an edge; otherwise 1 if the fill rule fills it, and -1 if it doesn't.
+/// Returns 0, or a code below 0.
 #[unsafe(no_mangle)]
 pub extern "C" fn i_shape_locate_i16(
     alloc: Global,
@@ -350,6 +355,25 @@ pub extern "C" fn i_shape_locate_i16(
         (query points.now offsets.now about.now rule) out.old out.new result }
 {
     tell_points::<PointI16, Located>(alloc, points, offsets, about, rule, out)
+}
+
+/// Writes for each point of `about` the index of the first polygon that the fill rule fills there, given the total
+/// winding number about it of the polygon's contours, or the greatest `usize` where there is none. Returns 0, or a code
+/// below 0.
+#[unsafe(no_mangle)]
+pub extern "C" fn i_shape_locate_in_shapes_i16(
+    alloc: Global,
+    points: &[PointI16],
+    contours: &[usize],
+    shapes: &[usize],
+    about: &[PointI16],
+    rule: i32,
+    out: &mut [usize],
+) -> i32
+    ensures { FindsHolders w16 point_i16 (polygon_arrays points.now contours.now shapes.now)
+        about.now rule out.old out.new result }
+{
+    find_holders(alloc, points, contours, shapes, about, rule, out)
 }
 
 /// Returns the contour's winding number about the point (x, y), or a code below every winding number. Counterclockwise
@@ -376,7 +400,7 @@ pub extern "C" fn i_shape_windings_i16(
     windings(alloc, points, offsets, about, out)
 }
 
-/// Returns 1 where each point is safe, and 0 otherwise.
+/// Returns 1 if each point is safe, otherwise 0.
 #[unsafe(no_mangle)]
 pub extern "C" fn i_shape_is_safe_i16(points: &[PointI16]) -> i32
     ensures { IsTold (AreSafe w16 point_i16 points.now) result }
@@ -384,7 +408,7 @@ pub extern "C" fn i_shape_is_safe_i16(points: &[PointI16]) -> i32
     is_safe(points)
 }
 
-/// Returns the index of the first point that isn't safe, or the number of points where each is safe.
+/// Returns the index of the first point that isn't safe, or the number of points if each is safe.
 #[unsafe(no_mangle)]
 pub extern "C" fn i_shape_first_unsafe_i16(points: &[PointI16]) -> usize
     ensures { IsFirstUnsafe w16 point_i16 points.now result }
@@ -392,7 +416,7 @@ pub extern "C" fn i_shape_first_unsafe_i16(points: &[PointI16]) -> usize
     first_unsafe(points)
 }
 
-/// Writes twice the signed area to `area`, positive where the contour runs counterclockwise. Returns whether there is a
+/// Writes twice the signed area to `area`, positive if the contour runs counterclockwise. Returns whether there is a
 /// point. Without points `area` stays unchanged. The points needn't be safe; a sum that doesn't fit wraps.
 #[unsafe(no_mangle)]
 pub extern "C" fn i_shape_area_two_i16(points: &[PointI16], area: &mut i32) -> bool
@@ -416,8 +440,8 @@ pub extern "C" fn i_shape_is_simple_polygon_i16(alloc: Global, points: &[PointI1
     test_contour(points, SimplePolygon { alloc })
 }
 
-/// Writes the indices of the points from which the two edges of the first contact lead. Returns 1, or 0 where there is
-/// no contact, or a code below 0.
+/// Writes the indices of the points from which the two edges of the first contact lead. Returns 1, or 0 if there is no
+/// contact, or a code below 0.
 #[unsafe(no_mangle)]
 pub extern "C" fn i_shape_first_contact_i16(
     alloc: Global,
@@ -429,7 +453,7 @@ pub extern "C" fn i_shape_first_contact_i16(
     find_contact(alloc, points, out)
 }
 
-/// Writes the same for the contours together, within one or between two. Returns 1, or 0 where there is no contact, or a
+/// Writes the same for the contours together, within one or between two. Returns 1, or 0 if there is no contact, or a
 /// code below 0.
 #[unsafe(no_mangle)]
 pub extern "C" fn i_shape_first_contact_of_rings_i16(
@@ -441,6 +465,28 @@ pub extern "C" fn i_shape_first_contact_of_rings_i16(
     ensures { FindsRingContact w16 point_i16 points.now offsets.now out.old out.new result }
 {
     find_contact_of_rings(alloc, points, offsets, out)
+}
+
+/// Writes the contacts of the contour, as many as `out` has room for, by the first edge and then by the second. Returns
+/// how many there are, or a code below 0.
+#[unsafe(no_mangle)]
+pub extern "C" fn i_shape_contacts_i16(points: &[PointI16], out: &mut [Contact]) -> isize
+    ensures { FindsContacts w16 point_i16 points.now out.old out.new result }
+{
+    find_contacts(points, out)
+}
+
+/// Writes the same for the contours together, within one or between two. Returns how many there are, or a code below 0.
+#[unsafe(no_mangle)]
+pub extern "C" fn i_shape_contacts_of_rings_i16(
+    alloc: Global,
+    points: &[PointI16],
+    offsets: &[usize],
+    out: &mut [Contact],
+) -> isize
+    ensures { FindsRingContacts w16 point_i16 points.now offsets.now out.old out.new result }
+{
+    find_contacts_of_rings(alloc, points, offsets, out)
 }
 
 /// Writes the first fault of each polygon. Returns 0, or a code below 0.
@@ -456,4 +502,56 @@ pub extern "C" fn i_shape_validity_shapes_i16(
         out.new result }
 {
     find_faults(alloc, points, contours, shapes, out)
+}
+
+/// Writes the canonical form of each polygon alone: that of each contour, empty where it collapses, and behind the first
+/// of a polygon those of the others, sorted. Returns how many points are written, or a code below 0.
+#[unsafe(no_mangle)]
+pub extern "C" fn i_shape_canonical_polygons_i16(
+    alloc: Global,
+    points: &[PointI16],
+    contours: &[usize],
+    shapes: &[usize],
+    out_points: &mut [PointI16],
+    out_contours: &mut [usize],
+) -> isize
+    ensures { FormsEach canonicalizing w16 point_i16
+        (polygon_arrays points.now contours.now shapes.now)
+        (contour_arrays out_points.old out_contours.old)
+        (contour_arrays out_points.new out_contours.new) result }
+{
+    form_polygons::<PointI16, Canonicalizer>(
+        alloc,
+        points,
+        contours,
+        shapes,
+        out_points,
+        out_contours,
+    )
+}
+
+/// Writes the canonical form of each polygon alone without regard to the direction of each contour. Returns how many
+/// points are written, or a code below 0.
+#[unsafe(no_mangle)]
+pub extern "C" fn i_shape_canonical_unoriented_polygons_i16(
+    alloc: Global,
+    points: &[PointI16],
+    contours: &[usize],
+    shapes: &[usize],
+    out_points: &mut [PointI16],
+    out_contours: &mut [usize],
+) -> isize
+    ensures { FormsEach canonicalizing_unoriented w16 point_i16
+        (polygon_arrays points.now contours.now shapes.now)
+        (contour_arrays out_points.old out_contours.old)
+        (contour_arrays out_points.new out_contours.new) result }
+{
+    form_polygons::<PointI16, UnorientedCanonicalizer>(
+        alloc,
+        points,
+        contours,
+        shapes,
+        out_points,
+        out_contours,
+    )
 }

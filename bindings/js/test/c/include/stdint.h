@@ -10,6 +10,7 @@ typedef __UINT64_TYPE__ uint64_t;
 typedef __UINTPTR_TYPE__ uintptr_t;
 #define INT64_C(number) number##LL
 #define UINT64_C(number) number##ULL
+#define SIZE_MAX __SIZE_MAX__
 #define UINT64_MAX __UINT64_MAX__
 #define PTRDIFF_MIN (-__PTRDIFF_MAX__ - 1)
 #endif

@@ -2,7 +2,6 @@ use Rattle.std.proofs.Common.{◌<◌, ◌^◌, Some, refl, arith, w64}
 use Rattle.std.proofs.lemmas.Int.{to_z_pos}
 use Rattle.i_shape.specs.IntPoint.{point_of}
 use Rattle.i_shape_c.specs.Batch.{contour_arrays, BatchAnswer}
-use Rattle.i_shape_c.specs.Cleaning.{cleaning}
 use Rattle.i_shape_c.specs.declared.codes.Refusal.TheVariants.{NoMemory}
 use Rattle.i_shape_c.proofs.Refusals.{each_code, code_of_64, refusal_as, as_is, refused, refused_memory, not_refused}
 use Rattle.i_shape_c.proofs.batch.clean_contours.Goals as goal
@@ -12,7 +11,7 @@ returns-in-Some g c =
     let at = λ (p : g.row.P.Denot). point_of g.P.Coordinate.IntNumber.value (g.P.ContourPoint.point p) in
     let r = c.in-Some.refusal in
     rw (c.code.ensures, code_of_64 r) (record {
-      answer = each_code (BatchAnswer (cleaning g.C.ContourCleaner.clean g.C.ContourCleaner.answers g.C.ContourCleaner.keeps g.C.ContourCleaner.picks g.C.ContourCleaner.fewest) g.P.Coordinate.IntNumber.width at (contour_arrays c.args.points.now c.args.offsets.now) (contour_arrays c.args.out_points.now c.args.out_offsets.now) (contour_arrays c.args.out_points.now c.args.out_offsets.now)) r
+      answer = each_code (BatchAnswer g.C.ContourCleaner.meaning g.P.Coordinate.IntNumber.width at (contour_arrays c.args.points.now c.args.offsets.now) (contour_arrays c.args.out_points.now c.args.out_offsets.now) (contour_arrays c.args.out_points.now c.args.out_offsets.now)) r
           (λ n few. (few, record { points = refl; offsets = refl }));
       refuses = refused r (refusal_as (Some r) c.are_parted-is_parted.ensures c.has_room-has_room.ensures as_is c.in-Some.ensures);
     })

@@ -2,10 +2,10 @@ use Rattle.std.proofs.Common.{◌≡◌, ◌-◌, ◌∙◌, length, map, sym, a
 use Rattle.std.proofs.lemmas.List.Sorted.{length_permutation, answers_always}
 use Rattle.i_shape_core.proofs.Common.{Point, point_of}
 use Rattle.i_shape.specs.Paths.{concatenated}
-use Rattle.i_shape_c.specs.Appended.{IsPut}
+use Rattle.i_shape_c.specs.Steps.Appended.{IsPut}
 use Rattle.i_shape_c.specs.Batch.{PartsPoints}
 use Rattle.i_shape_c.specs.Polygons.{parts, polygons, offsets_of}
-use Rattle.i_shape_c.specs.Sorted.{SortsPolygons}
+use Rattle.i_shape_c.specs.Steps.Sorted.{SortsPolygons}
 use Rattle.i_shape_c.proofs.Nested.{listed, filled}
 use Rattle.i_shape_c.proofs.PolygonLists.{concatenated-map, offsets-map}
 use Rattle.i_shape_c.proofs.SortedPolygons.{points_in_order, made_sorted, sorted_by_first, keyed}
@@ -18,7 +18,7 @@ sort_each_rest-requires g c =
     let many = listed (λ b. b.now) c.in_ok-rings.rings.items c.args.points.now c.args.contours.now c.in_ok-rings.ensures in
     subst (λ n. PartsPoints n c.args.shapes.now) (sym (ap length c.deref_mut.ensures.value ∙ many)) c.requires.parted.shapes_parted
 
--- the rings, sorted in place, read back
+-- the rings, sorted in place, are read back
 back : (g : Over) (c : After-deref g) → c.deref.result.now ≡ c.sort_each_rest.new.items
 back g c = c.deref.ensures.value ∙ take_at c.sort_each_rest.new.items _ c.in_ok-rings.rings.len (c.sort_each_rest.ensures.len ∙ ap length c.deref_mut.ensures.value ∙ sym c.in_ok-rings.rings.ok.0)
 
@@ -30,7 +30,7 @@ slices-requires-2 g c =
 abbrev at : (g : Over) → g.row.P.Denot → Point
 at g p = point_of g.P.Coordinate.IntNumber.value (g.P.ContourPoint.point p)
 
--- the polygons are sorted, and have as many contours and points as before
+-- the polygons are sorted, with as many contours and points as before
 facts : (g : Over) (c : After-deref_mut-2 g)
     → SortsPolygons (map (map (map (at g))) (polygons c.args.points.now c.args.contours.now c.args.shapes.now)) (map (map (map (at g))) (map (map (λ b. b.now)) (map (λ d. d.now) c.sort_by_cached_key.new.self.items)))
     × (length (concatenated (map (λ d. d.now) c.sort_by_cached_key.new.self.items)) ≡ length (concatenated (polygons c.args.points.now c.args.contours.now c.args.shapes.now)))
@@ -42,7 +42,7 @@ facts g c =
     c.in_ok-rings.ensures (rw c.deref_mut.ensures.value at c.sort_each_rest.ensures.sorted) (c.in_ok-polygons.ensures ∙ ap (λ w. parts w c.args.shapes.now) read) c.sort_by_cached_key.ensures.permutation
     (sorted_by_first (λ b. b.now) (λ d. d.now) (at g) g.P.Ord.cmp told g.met.P.Ord.total c.sort_by_cached_key.new.self.items (c.in_ok-sort_by_cached_key.ensures.sorted (keyed (λ b. b.now) (λ d. d.now)) (answers_always _ _ _ (λ f a r q k. search rules))))
 
--- the room for the rings has their length
+-- the room for the rings is exactly their number
 long : (g : Over) (c : After-deref_mut-2 g) → (length (concatenated (map (λ d. d.now) c.deref-2.result.now)) ≡ length c.deref_mut-2.result.now) × (length c.deref_mut-2.result.now ≡ length c.args.contours.now - 1)
 long g c =
     let many : length c.deref_mut-2.result.now ≡ length c.args.contours.now - 1 = ap length c.deref_mut-2.ensures.value ∙ listed (λ b. b.now) c.in_ok-sorted.sorted.items c.args.points.now c.args.contours.now c.in_ok-sorted.ensures in
@@ -56,7 +56,7 @@ write_lists-requires-clause-offsets_room g c =
     let made = listed (λ d. d.now) c.in_ok-polygons.polygons.items c.deref.result.now c.args.shapes.now c.in_ok-polygons.ensures in
     omega (arith, ap length c.deref-2.ensures.value, length_permutation c.in_ok-polygons.polygons.items c.sort_by_cached_key.new.self.items c.sort_by_cached_key.ensures.permutation, made, c.requires.parted.shapes_parted.some, c.requires.shapes_room)
 
--- the rings of the sorted polygons, read back
+-- the rings of the sorted polygons are read back
 kept : (g : Over) (c : After-deref-3 g) → length (concatenated (map (λ d. d.now) c.deref-2.result.now)) ≡ length c.deref_mut-2.result.now → c.deref-3.result.now ≡ concatenated (map (λ d. d.now) c.deref-2.result.now)
 kept g c fits =
     let full = filled (concatenated (map (λ d. d.now) c.deref-2.result.now)) c.deref_mut-2.result.now c.write_lists.new.out c.write_lists.ensures.items fits in

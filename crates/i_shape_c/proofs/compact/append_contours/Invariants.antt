@@ -1,5 +1,5 @@
 use Rattle.std.proofs.Common.{◌≡◌, ◌+◌, ◌≤◌, length}
-use Rattle.i_shape_c.specs.Appended.{IsPut}
+use Rattle.i_shape_c.specs.Steps.Appended.{IsPut}
 use Rattle.i_shape_c.specs.Compacted.{contours_left}
 use Rattle.i_shape_c.proofs.compact.append_contours.Given as goal
 

@@ -1,5 +1,5 @@
 use Rattle.std.proofs.Common.{◌+◌, ◌-◌, length, arith}
-use Rattle.i_shape_core.proofs.lists.Rings.{rises_to}
+use Rattle.i_shape_core.proofs.Lists.Rings.{rises_to}
 use Rattle.i_shape_c.proofs.compact.is_left.Goals as goal
 
 pub has_points-requires : goal.has_points-requires

@@ -1,6 +1,6 @@
 use Rattle.std.proofs.Common.{◌≡◌, ◌+◌, ◌-◌, ◌≤◌, ◌∙◌, length, sym, arith}
 use Rattle.i_shape_c.specs.Batch.{offset}
-use Rattle.i_shape_core.proofs.lists.Rings.{rises_to}
+use Rattle.i_shape_core.proofs.Lists.Rings.{rises_to}
 use Rattle.i_shape_c.proofs.Compacted.{begun_collapsed, begun_more, begun_all}
 use Rattle.i_shape_c.proofs.compact.write_indices.Goals as goal
 

@@ -1,9 +1,8 @@
 use Rattle.std.proofs.Common.{◌≡◌, ◌∙◌, ◌+◌, ◌-◌, ◌≤◌, ℕ, List, length, map, slice_range, refl, ap, sym, subst, arith}
 use Rattle.std.proofs.lemmas.List.{length-map}
-use Rattle.i_shape_core.specs.IntPoint.{contour_of}
-use Rattle.i_shape_core.proofs.plane.PointLists.{read-length}
-use Rattle.i_shape_core.proofs.lists.Rings.{rises_to}
-use Rattle.i_shape.specs.IntPoint.{point_of}
+use Rattle.i_shape.specs.IntPoint.{contour_of, point_of}
+use Rattle.i_shape_core.proofs.Plane.PointLists.{read-length}
+use Rattle.i_shape_core.proofs.Lists.Rings.{rises_to}
 use Rattle.i_shape_c.specs.Batch.{offset}
 use Rattle.i_shape_c.specs.Cleaned.{AreSafe}
 use Rattle.i_shape_c.specs.Contacts.{AreRebased}

@@ -17,10 +17,10 @@ returns-in-Ok g c =
     let value = g.P.Coordinate.IntNumber.value in
     let as_c : (list : List g.row.P.Denot) → contour_of value (g.P.ContourPoint.points list) ≡ map (λ p. point_of value (g.P.ContourPoint.point p)) list =
     λ list. copied_points g.P.Coordinate.IntNumber.width value g.P.ContourPoint.point list (g.P.ContourPoint.points list) (g.P.ContourPoint.each list) in
-    let written = c.in-Ok.ensures.written in
+    let written = c.in-Ok.ensures.written.written in
     let small : c.in-Ok.count < 2 ^ 63 = omega (arith, written.fewer, c.if-out-points.false, c.requires) in
     rw (to_z_pos w64 c.in-Ok.count small) (record {
-      answer = written_as g.C.ContourCleaner.answers g.C.ContourCleaner.keeps (g.C.ContourCleaner.picks g.row.P.Denot) g.P.Coordinate.IntNumber.width _ _ c.args.points.now c.args.out.now c.try_clean_into.new.out c.in-Ok.count as_c written;
+      answer = written_as g.C.ContourCleaner.meaning g.P.Coordinate.IntNumber.width _ _ c.args.points.now c.args.out.now c.try_clean_into.new.out c.in-Ok.count as_c written;
       refuses = not_refused (tt, omega (arith, c.if-out-points.false), c.if-not-are_safe.ensures.0 refl) c.in-Ok.count;
     })
 
@@ -30,9 +30,9 @@ returns g c =
     let points = g.P.ContourPoint.points c.args.points.now in
     let same = copied_points g.P.Coordinate.IntNumber.width value g.P.ContourPoint.point c.args.points.now points (g.P.ContourPoint.each c.args.points.now) in
     let at = λ (p : g.row.P.Denot). point_of value (g.P.ContourPoint.point p) in
-    let unspared : TakesNoMemory g.C.ContourCleaner.fewest g.C.ContourCleaner.clean (map at c.args.points.now) → ⊥ = λ none. elim none [
-      | inl few ↦ let told = c.in-Err.ensures.reserved (g.met.C.ContourCleaner.spares c.new.result (length c.args.points.now) (omega (arith, few, length-map c.args.points.now at))) in absurd (cc)
-      | inr clean ↦ c.in-Err.ensures.unclean (rw same clean)
+    let unspared : TakesNoMemory g.C.ContourCleaner.meaning.fewest g.C.ContourCleaner.meaning.clean (map at c.args.points.now) → ⊥ = λ none. elim none [
+      | inl few ↦ let told = c.in-Err.ensures.memory.reserved (g.met.C.ContourCleaner.spares c.new.result (length c.args.points.now) (omega (arith, few, length-map c.args.points.now at))) in absurd (cc)
+      | inr clean ↦ c.in-Err.ensures.memory.unclean (rw same clean)
     ] in
     rw (c.code-in-Err.ensures, code_of_64 NoMemory) (record {
       answer = search rules;

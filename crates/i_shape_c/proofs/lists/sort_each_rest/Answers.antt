@@ -1,8 +1,8 @@
 use Rattle.std.proofs.Common.{IsSorted, ◌≡◌, ◌+◌, ◌-◌, ◌≤◌, ◌∙◌, length, drop, slice_range, subst, sym, arith, rules, length-take-le, length-drop}
 use Rattle.std.proofs.lemmas.Slice.{take-put_mid_below, between-put_mid, drop-put_mid}
 use Rattle.i_shape_c.specs.Batch.{offset, nth_contour}
-use Rattle.i_shape_c.specs.Sorted.{SortsRest}
-use Rattle.i_shape_core.proofs.lists.Rings.{rises_to, same_further}
+use Rattle.i_shape_c.specs.Steps.Sorted.{SortsRest}
+use Rattle.i_shape_core.proofs.Lists.Rings.{rises_to, same_further}
 use Rattle.i_shape_c.proofs.Nested.{rest_more, zip_from}
 use Rattle.i_shape_c.proofs.lists.sort_each_rest.Goals as goal
 

@@ -1,6 +1,6 @@
 use Rattle.std.proofs.Common.{IsSorted, ◌≡◌, ◌+◌, ◌-◌, ◌<◌, ℕ, take, drop}
 use Rattle.i_shape_c.specs.Batch.{offset, nth_contour}
-use Rattle.i_shape_c.specs.Sorted.{SortsRest}
+use Rattle.i_shape_c.specs.Steps.Sorted.{SortsRest}
 use Rattle.i_shape_c.proofs.lists.sort_each_rest.Given as goal
 
 abbrev pub invariant-loop-place : goal.invariant-loop-place

@@ -2,7 +2,7 @@ use Rattle.std.proofs.Common.{◌≡◌, ◌+◌, ◌<◌, ◌++◌, ◌∙◌, 
 use Rattle.std.proofs.lemmas.List.{map_more, length-map, length-take-le, length-set}
 use Rattle.i_shape.specs.Paths.{concatenated}
 use Rattle.i_shape_c.specs.Polygons.{offsets_of}
-use Rattle.i_shape_c.specs.Appended.{IsPut}
+use Rattle.i_shape_c.specs.Steps.Appended.{IsPut}
 use Rattle.i_shape_c.proofs.Appended.{put_more, put_one, length-offsets}
 use Rattle.i_shape_c.proofs.Nested.{offsets_more, list_more, list_fits}
 use Rattle.i_shape_c.proofs.lists.write_lists.Goals as goal

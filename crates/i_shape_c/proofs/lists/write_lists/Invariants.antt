@@ -1,7 +1,7 @@
 use Rattle.std.proofs.Common.{◌≡◌, length, map, take}
 use Rattle.i_shape.specs.Paths.{concatenated}
 use Rattle.i_shape_c.specs.Polygons.{offsets_of}
-use Rattle.i_shape_c.specs.Appended.{IsPut}
+use Rattle.i_shape_c.specs.Steps.Appended.{IsPut}
 use Rattle.i_shape_c.proofs.lists.write_lists.Given as goal
 
 abbrev pub invariant-loop-place : goal.invariant-loop-place

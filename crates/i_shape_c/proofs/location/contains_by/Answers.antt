@@ -2,7 +2,7 @@ use Rattle.std.proofs.Common.{◌≡◌, ◌∙◌, ap, map, sym, subst, refl, I
 use Rattle.std.proofs.lemmas.Int.{to_z-of_z}
 use Rattle.i_shape.specs.Filling.{IsFilled}
 use Rattle.i_shape_core.proofs.Common.{point_of, IsSafe, winding}
-use Rattle.i_shape_core.specs.declared.fill_rule.FillRule.{FillRule}
+use Rattle.i_shape_core.specs.declared.measure.fill_rule.FillRule.{FillRule}
 use Rattle.i_shape_c.specs.Cleaned.{AreSafe}
 use Rattle.i_shape_c.specs.Locations.{rule_of}
 use Rattle.i_shape_c.specs.Tests.{IsTold}

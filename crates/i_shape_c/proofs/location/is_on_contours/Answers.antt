@@ -4,7 +4,7 @@ use Rattle.i_shape.specs.IntPoint.{point_of}
 use Rattle.i_shape.specs.Boundary.{IsOnEdge}
 use Rattle.i_shape_c.specs.Batch.{offset, nth_contour}
 use Rattle.i_shape_c.proofs.Batches.{safe_part}
-use Rattle.i_shape_core.proofs.lists.Rings.{rises_to}
+use Rattle.i_shape_core.proofs.Lists.Rings.{rises_to}
 use Rattle.i_shape_c.proofs.Boundary.{copied_points, safe_contour}
 use Rattle.i_shape_c.proofs.location.is_on_contours.Goals as goal
 

@@ -1,6 +1,6 @@
 use Rattle.std.proofs.Common.{◌+◌, ◌<◌, length, refl, subst, arith}
 use Rattle.i_shape.specs.IntPoint.{point_of}
-use Rattle.i_shape_core.proofs.lists.Rings.{back_more}
+use Rattle.i_shape_core.proofs.Lists.Rings.{back_more}
 use Rattle.i_shape_c.proofs.Told.{item_more}
 use Rattle.i_shape_c.proofs.location.tell_by_numbers.Goals as goal
 

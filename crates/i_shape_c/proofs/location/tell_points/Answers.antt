@@ -1,7 +1,7 @@
 use Rattle.std.proofs.Common.{◌≡◌, ◌∙◌, refl, ap, sym, subst, Option, Some, IfSome, w32}
 use Rattle.std.proofs.lemmas.Int.{to_z-of_z}
 use Rattle.i_shape.specs.IntPoint.{point_of}
-use Rattle.i_shape_core.specs.declared.fill_rule.FillRule.{FillRule}
+use Rattle.i_shape_core.specs.declared.measure.fill_rule.FillRule.{FillRule}
 use Rattle.i_shape_c.specs.Locations.{query, rule_of, AreTold, TellsAnswer}
 use Rattle.i_shape_c.proofs.Refusals.{each_code, code_of_32, as_is, refusal_as, refused, not_refused}
 use Rattle.i_shape_c.proofs.Told.{not_none}

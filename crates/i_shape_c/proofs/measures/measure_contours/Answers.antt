@@ -2,7 +2,7 @@ use Rattle.std.proofs.Common.{◌≡◌, arith, refl, length, ◌+◌, ◌-◌, 
 use Rattle.std.specs.List.{All, AllZip, range_with_len}
 use Rattle.i_shape.specs.IntPoint.{point_of}
 use Rattle.i_shape_c.specs.Batch.{offset, nth_contour}
-use Rattle.i_shape_core.proofs.lists.Rings.{rises_to, back_more}
+use Rattle.i_shape_core.proofs.Lists.Rings.{rises_to, back_more}
 use Rattle.i_shape_c.proofs.Batches.{all_part}
 use Rattle.i_shape_c.specs.declared.codes.Refusal.TheVariants.{Unsafe}
 use Rattle.i_shape_c.proofs.Refusals.{code_of_32, refused, not_refused}

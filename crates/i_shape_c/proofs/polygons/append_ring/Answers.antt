@@ -1,7 +1,7 @@
 use Rattle.std.proofs.Common.{◌≡◌, ◌<◌, ◌≤◌, ◌+◌, ◌∙◌, ◌++◌, List, length, map, slice_range, sym, ap₂, arith, None, Some}
 use Rattle.std.proofs.lemmas.List.{take-append-drop, length-map}
 use Rattle.i_shape_core.proofs.Common.{Point, point_of, contour_of}
-use Rattle.i_shape_core.proofs.answers.Written.{slot_some}
+use Rattle.i_shape_core.proofs.CleanerAnswers.Written.{slot_some}
 use Rattle.i_shape_c.proofs.Appended.{rings_none, ring_put, put_between}
 use Rattle.i_shape_c.proofs.Batches.{same}
 use Rattle.i_shape_c.proofs.Parts.{nothing_between}

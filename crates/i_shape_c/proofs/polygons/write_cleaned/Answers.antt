@@ -1,7 +1,7 @@
 use Rattle.std.proofs.Common.{arith}
 use Rattle.i_shape_core.proofs.Common.{Point, point_of}
-use Rattle.i_shape_core.specs.Reading.{read}
-use Rattle.i_shape_core.specs.Rings.{AreSafeRings}
+use Rattle.i_shape.specs.Reading.{read}
+use Rattle.i_shape.specs.Rings.{AreSafeRings}
 use Rattle.i_shape_c.specs.Batch.{AreSpared}
 use Rattle.i_shape_c.specs.Cleaned.{TakesNoMemory}
 use Rattle.i_shape_c.proofs.Batches.{safe_rings, have_room, on_err}
@@ -47,16 +47,16 @@ pub returns-in_err-all_clean-clause-memory : goal.returns-in_err-all_clean-claus
 returns-in_err-all_clean-clause-memory g c =
     let at : g.row.P.Denot → Point = λ p. point_of g.P.Coordinate.IntNumber.value (g.P.ContourPoint.point p) in
     let rings_now = c.part-rings.result.now in
-    let Spares = TakesNoMemory g.C.ContourCleaner.fewest g.C.ContourCleaner.clean in
+    let Spares = TakesNoMemory g.C.ContourCleaner.meaning.fewest g.C.ContourCleaner.meaning.clean in
     on_err c.from_residual.result (λ each.
     let none : AreSpared Spares at c.args.points.now rings_now = rw (c.part-rings.ensures.part) (rings_clean c.args.points.now c.requires.parted at Spares each) in
-    let told = c.in_err-all_clean.ensures.memory.reserved (have_room g.P.Coordinate.IntNumber.width g.P.Coordinate.IntNumber.value g.P.ContourPoint.point g.P.ContourPoint.points g.P.ContourPoint.each g.C.ContourCleaner.fewest g.C.ContourCleaner.clean
+    let told = c.in_err-all_clean.ensures.memory.reserved (have_room g.P.Coordinate.IntNumber.width g.P.Coordinate.IntNumber.value g.P.ContourPoint.point g.P.ContourPoint.points g.P.ContourPoint.each g.C.ContourCleaner.meaning.fewest g.C.ContourCleaner.meaning.clean
     (g.C.ContourCleaner.has_room c.new-cleaner.result) (g.met.C.ContourCleaner.spares c.new-cleaner.result) c.args.points.now rings_now none) in
     absurd (cc))
 
 pub returns-clause-ok : goal.returns-clause-ok
 returns-clause-ok g c =
     let at : g.row.P.Denot → Point = λ p. point_of g.P.Coordinate.IntNumber.value (g.P.ContourPoint.point p) in
-    left_written c.args.points.now c.requires.parted at g.C.ContourCleaner.answers c.part-rings.result.now
+    left_written c.args.points.now c.requires.parted at g.C.ContourCleaner.meaning.answers c.part-rings.result.now
     c.args.out_points.now c.write_polygons.new.out_points c.args.out_contours.now c.write_polygons.new.out_contours c.args.out_shapes.now c.write_polygons.new.out_shapes c.write_polygons.result
     c.part-rings.ensures.part c.write_polygons.ensures

@@ -1,11 +1,11 @@
 use Rattle.std.proofs.Common.{◌≡◌, ◌+◌, ◌-◌, ◌++◌, ◌∙◌, ◌∷◌, [], ℕ, List, length, slice_range, set, sym, ap, subst, arith, length-set}
 use Rattle.std.proofs.lemmas.List.FromFn.{map-range_with_len_more}
 use Rattle.i_shape_core.proofs.Common.{point_of, Point}
-use Rattle.i_shape_core.specs.Reading.{read}
+use Rattle.i_shape.specs.Reading.{read}
 use Rattle.i_shape.specs.ShapeAnswers.{ShapeClean}
-use Rattle.i_shape_core.proofs.lists.Rings.{rises_to}
-use Rattle.i_shape_core.proofs.lists.Survivors.{survivors-none}
-use Rattle.i_shape_c.specs.Appended.{IsReady, AppendsShapeLeft, polygons_of, rings_at}
+use Rattle.i_shape_core.proofs.Lists.Rings.{rises_to}
+use Rattle.i_shape_core.proofs.Lists.Survivors.{survivors-none}
+use Rattle.i_shape_c.specs.Steps.Appended.{IsReady, AppendsShapeLeft, polygons_of, rings_at}
 use Rattle.i_shape_c.specs.Batch.{offset, nth_contour}
 use Rattle.i_shape_c.specs.Polygons.{polygon_arrays, parts}
 use Rattle.i_shape_c.specs.declared.polygons.Counts.{Counts}
@@ -17,7 +17,7 @@ pub loop-place-init : goal.loop-place-init
 loop-place-init g c =
     let none : offset c.args.shapes.now 0 - offset c.args.shapes.now 0 ≡ 0 = omega arith in
     record {
-      begun = record { kept = []; shapes = survivors-none (ShapeClean g.C.ContourCleaner.answers); appended = polygons_none c.args.out_points.now (set c.args.out_contours.now 0 0) (set c.args.out_shapes.now 0 0) _ };
+      begun = record { kept = []; shapes = survivors-none (ShapeClean g.C.ContourCleaner.meaning.answers); appended = polygons_none c.args.out_points.now (set c.args.out_contours.now 0 0) (set c.args.out_shapes.now 0 0) _ };
       fewer_points = rw none (omega arith);
       fewer_contours = omega arith;
       fewer_shapes = omega arith;
@@ -51,9 +51,9 @@ append_polygon-counts-requires-clause-ready g c =
     let up = rises_in rings shapes c.loop-place.place c.requires.shapes_order (omega arith) c.loop-place-test.true c.requires.shapes_last in
     let reading = read g.P.Coordinate.IntNumber.value g.P.ContourPoint.points in
     rw (c.part-polygon.ensures.part)
-    (each_part (IsReady g.C.ContourCleaner.clean g.P.Coordinate.IntNumber.width reading c.args.all_clean (g.C.ContourCleaner.has_room c.loop-place.cleaner)) c.args.points.now rings (offset shapes (c.loop-place.place - 1) - offset shapes 0) (offset shapes c.loop-place.place - offset shapes 0 + 1)
+    (each_part (IsReady g.C.ContourCleaner.meaning.clean g.P.Coordinate.IntNumber.width reading c.args.all_clean (g.C.ContourCleaner.has_room c.loop-place.cleaner)) c.args.points.now rings (offset shapes (c.loop-place.place - 1) - offset shapes 0) (offset shapes c.loop-place.place - offset shapes 0 + 1)
     (omega (arith, up.0, up.1)) (omega (arith, up.0, up.1, up.2))
-    (λ k less. ready_still g.C.ContourCleaner.clean g.P.Coordinate.IntNumber.width reading c.args.all_clean (g.C.ContourCleaner.has_room c.args.cleaner.now) (g.C.ContourCleaner.has_room c.loop-place.cleaner) (nth_contour c.args.points.now rings k)
+    (λ k less. ready_still g.C.ContourCleaner.meaning.clean g.P.Coordinate.IntNumber.width reading c.args.all_clean (g.C.ContourCleaner.has_room c.args.cleaner.now) (g.C.ContourCleaner.has_room c.loop-place.cleaner) (nth_contour c.args.points.now rings k)
     c.loop-place.invariant.keeps_room (c.requires.ready k less)))
 
 pub append_polygon-counts-requires-clause-points_room : goal.append_polygon-counts-requires-clause-points_room
@@ -73,7 +73,7 @@ append_polygon-counts-requires-clause-contours_room g c =
 pub loop-place-preserved : goal.loop-place-preserved
 loop-place-preserved g c =
     let at : g.row.P.Denot → Point = λ p. point_of g.P.Coordinate.IntNumber.value (g.P.ContourPoint.point p) in
-    let Answer = g.C.ContourCleaner.answers in
+    let Answer = g.C.ContourCleaner.meaning.answers in
     let points = c.args.points.now in
     let rings = c.args.rings.now in
     let shapes = c.args.shapes.now in

@@ -1,8 +1,7 @@
 use Rattle.std.proofs.Common.{◌≡◌, ◌∙◌, ◌-◌, List, ℕ, length, map, sym, ap, subst, arith}
-use Rattle.i_shape_core.specs.IntPoint.{contour_of}
-use Rattle.i_shape_core.proofs.plane.PointLists.{read-length}
-use Rattle.i_shape_core.proofs.lists.Rings.{rises_to}
-use Rattle.i_shape.specs.IntPoint.{point_of}
+use Rattle.i_shape.specs.IntPoint.{contour_of, point_of}
+use Rattle.i_shape_core.proofs.Plane.PointLists.{read-length}
+use Rattle.i_shape_core.proofs.Lists.Rings.{rises_to}
 use Rattle.i_shape_contacts.specs.Courses.{DividesPoints}
 use Rattle.i_shape_contacts.specs.declared.validity.Validity.TheVariants.{Valid, TooFewPoints, Contact, HoleOutside, HoleWithin}
 use Rattle.i_shape_c.specs.Batch.{offset}

@@ -1,5 +1,5 @@
 use Rattle.std.proofs.Common.{length, ◌-◌, arith}
-use Rattle.i_shape_core.proofs.lists.Rings.{rises_to}
+use Rattle.i_shape_core.proofs.Lists.Rings.{rises_to}
 use Rattle.i_shape_c.proofs.validity.most_offsets.Goals as goal
 
 pub overflow_add-offsets : goal.overflow_add-offsets

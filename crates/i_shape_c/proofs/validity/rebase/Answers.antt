@@ -1,6 +1,6 @@
 use Rattle.std.proofs.Common.{◌≡◌, length, take, refl, subst, arith}
 use Rattle.i_shape_c.specs.Validity.{rebased}
-use Rattle.i_shape_core.proofs.lists.Rings.{rises_to}
+use Rattle.i_shape_core.proofs.Lists.Rings.{rises_to}
 use Rattle.i_shape_c.proofs.Faults.{rebased_more, rebased_all}
 use Rattle.i_shape_c.proofs.validity.rebase.Goals as goal
 

@@ -3,7 +3,7 @@ use Rattle.i_shape.specs.IntPoint.{point_of, IsSafe}
 use Rattle.i_shape_c.specs.Batch.{offset, PartsPoints, AreSafeContours}
 use Rattle.i_shape_c.specs.Polygons.{polygon_arrays}
 use Rattle.i_shape_c.specs.Validity.{IsFaultOf, IsFaultAt}
-use Rattle.i_shape_core.proofs.lists.Rings.{back_more}
+use Rattle.i_shape_core.proofs.Lists.Rings.{back_more}
 use Rattle.i_shape_c.proofs.Faults.{within, own_parted, own_points, faults_more}
 use Rattle.i_shape_c.proofs.validity.write_each.Goals as goal
 

@@ -1,11 +1,11 @@
 use Rattle.std.proofs.Common.{◌≡◌, ◌∙◌, ℕ, ◌+◌, ◌+ℤ◌, ◌-◌, suc, length, map, slice_range, ap, sym, refl, arith}
 use Rattle.std.specs.List.{range_with_len}
 use Rattle.i_shape_core.proofs.Common.{Point, point_of, contour_of, sum_of, winding}
-use Rattle.i_shape_core.specs.Heights.{asked_points}
-use Rattle.i_shape_core.proofs.measure.Heights.{added_as, added_more, none_added_yet}
+use Rattle.i_shape.specs.Heights.{asked_points}
+use Rattle.i_shape_core.proofs.Sums.Heights.{added_as, added_more, none_added_yet}
 use Rattle.i_shape_c.specs.Batch.{offset, nth_contour}
 use Rattle.i_shape_c.proofs.Batches.{safe_part}
-use Rattle.i_shape_core.proofs.lists.Rings.{rises_to}
+use Rattle.i_shape_core.proofs.Lists.Rings.{rises_to}
 use Rattle.i_shape_c.proofs.Boundary.{copied_points, safe_contour}
 use Rattle.i_shape_c.proofs.Windings.{one_more}
 use Rattle.i_shape_c.proofs.winding.add_contours.Goals as goal

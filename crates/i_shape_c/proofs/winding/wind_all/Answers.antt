@@ -3,7 +3,7 @@ use Rattle.std.proofs.lemmas.Int.{to_z-of_z}
 use Rattle.std.specs.List.{range_with_len}
 use Rattle.i_shape_core.proofs.Common.{point_of, sum_of, winding, IsWithinHalf}
 use Rattle.i_shape_c.specs.Batch.{offset, nth_contour}
-use Rattle.i_shape_core.proofs.lists.Rings.{rises_to}
+use Rattle.i_shape_core.proofs.Lists.Rings.{rises_to}
 use Rattle.i_shape_c.proofs.Batches.{safe_part}
 use Rattle.i_shape_c.proofs.Boundary.{copied_points, safe_contour}
 use Rattle.i_shape_c.proofs.Windings.{one_more, half_more, half_fits}

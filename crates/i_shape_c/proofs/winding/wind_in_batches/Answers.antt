@@ -2,7 +2,7 @@ use Rattle.std.proofs.Common.{◌≡◌, ◌∙◌, ◌+◌, ◌-◌, ◌++◌, 
 use Rattle.std.proofs.lemmas.List.{take_rest}
 use Rattle.i_shape.specs.IntPoint.{point_of}
 use Rattle.i_shape_c.specs.Windings.{contours_winding}
-use Rattle.i_shape_core.proofs.lists.Rings.{anew}
+use Rattle.i_shape_core.proofs.Lists.Rings.{anew}
 use Rattle.i_shape_c.proofs.Windings.{batch_more}
 use Rattle.i_shape_c.proofs.winding.wind_in_batches.Goals as goal
 

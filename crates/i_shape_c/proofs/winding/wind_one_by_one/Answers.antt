@@ -3,7 +3,7 @@ use Rattle.std.proofs.lemmas.Int.{to_z-of_z}
 use Rattle.std.proofs.lemmas.List.{take_more, take_more_set, take-append-drop, map-append}
 use Rattle.i_shape.specs.IntPoint.{point_of}
 use Rattle.i_shape_c.specs.Windings.{contours_winding}
-use Rattle.i_shape_core.proofs.lists.Rings.{back_more}
+use Rattle.i_shape_core.proofs.Lists.Rings.{back_more}
 use Rattle.i_shape_c.proofs.winding.wind_one_by_one.Goals as goal
 
 pub loop-place-preserved : goal.loop-place-preserved

@@ -8,7 +8,7 @@ ghost use Rattle.i_shape_c.specs.Batch.{contour_arrays};
 ghost use Rattle.i_shape_c.specs.Points.{point_i32};
 ghost use Rattle.i_shape_c.specs.Areas.{IsDoubleArea};
 ghost use Rattle.i_shape_c.specs.Measures.{IsByteOf, MeasuresEach, TestsEach};
-ghost use Rattle.i_shape_core.specs.IntPoint.{IsSafeContour};
+ghost use Rattle.i_shape.specs.IntPoint.{IsSafeContour};
 
 use crate::measures::{DoubleArea, SafeRange, Tested, measure_contours};
 use crate::point::PointI32;

@@ -1,6 +1,6 @@
 use Rattle.std.proofs.Common.{refl, IsTrue, false}
 use Rattle.i_shape.specs.IntPoint.{point_of, IsSafe}
-use Rattle.i_shape_core.proofs.lists.Mapped.{all_mapped}
+use Rattle.i_shape_core.proofs.Lists.Mapped.{all_mapped}
 use Rattle.i_shape_c.proofs.measures.SafeRangeContourMeasure.measure.Goals as goal
 
 pub returns-then-are_safe : goal.returns-then-are_safe
