@@ -23,4 +23,8 @@ fn main() {
         println!("cargo::rustc-cfg=weak_names");
         println!("cargo::rustc-cdylib-link-arg=-Wl,-soname,libi_shape.so.{named}");
     }
+    if told("CARGO_CFG_TARGET_OS") == "linux" {
+        // not each C compiler tells its linker to
+        println!("cargo::rustc-cdylib-link-arg=-Wl,--build-id=sha1");
+    }
 }

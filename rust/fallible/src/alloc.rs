@@ -7,11 +7,11 @@ use core::fmt;
 #[derive(Clone, Copy, PartialEq, Eq, PartialOrd, Ord, Hash, Debug, Default)]
 pub struct Global;
 
-/// Rattle's `AllocError`: memory was refused.
+/// Rattle's `AllocError`: an allocation failed.
 #[derive(Clone, Copy, PartialEq, Eq, Debug)]
 pub struct AllocError;
 
-/// Rattle's `AllocFailed`: memory was refused, and this couldn't be stored.
+/// Rattle's `AllocFailed`: an allocation failed, and this couldn't be stored.
 #[derive(Clone, Copy, PartialEq, Eq)]
 pub struct AllocFailed<T> {
     /// What couldn't be stored.

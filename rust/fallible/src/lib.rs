@@ -1,4 +1,4 @@
-//! What the erased crates use of Rattle's std and Rust's doesn't have: lists and texts whose growth can be refused.
+//! What the erased crates use of Rattle's std and Rust's doesn't have: lists and texts whose growth can fail.
 #![no_std]
 #![forbid(unsafe_code)]
 #![warn(missing_docs)]

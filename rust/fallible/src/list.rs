@@ -1,4 +1,4 @@
-//! A list whose growth can be refused.
+//! A list whose growth can fail.
 
 use super::rust_alloc::vec;
 use crate::alloc::{AllocError, AllocFailed, Global};
@@ -7,7 +7,7 @@ use core::hint::black_box;
 use core::ops::{Deref, DerefMut, Range};
 use core::slice;
 
-/// Rattle's `Vec`: Rust's, but each call that grows it returns an error if memory is refused, and leaves it as it was.
+/// Rattle's `Vec`: Rust's, but a call that grows it returns an error if an allocation fails, and leaves it as it was.
 ///
 /// It is a type of its own, since a method of Rust's `Vec` would go before one of a trait. It lends its items as a
 /// slice, and never as Rust's `Vec`, which grows without an error.
@@ -174,7 +174,7 @@ impl<T> Vec<T> {
     /// Rattle's `Vec::sort_by_cached_key`: sorts by a key that is computed once for each item. Items of equal keys stay
     /// in order.
     ///
-    /// It takes as much memory as Rattle's, so that both are refused at the same calls: for more than 20 items also the
+    /// It takes as much memory as Rattle's, so that both fail at the same calls: for more than 20 items also the
     /// room into which Rattle's sort merges, though Rust's sorts in place.
     pub fn sort_by_cached_key<K: Ord>(&mut self, key: impl FnMut(&T) -> K) -> Result<(), AllocError>
     where

@@ -1,11 +1,11 @@
-//! A text whose growth can be refused.
+//! A text whose growth can fail.
 
 use super::rust_alloc::string;
 use crate::alloc::{AllocError, Global};
 use core::fmt::{self, Write};
 use core::ops::Deref;
 
-/// Rattle's `String`: Rust's, but each call that grows it returns an error if memory is refused.
+/// Rattle's `String`: Rust's, but each call that grows it returns an error if an allocation fails.
 ///
 /// It lends its text, and never Rust's `String`, which grows without an error.
 #[derive(PartialEq, Eq, PartialOrd, Ord, Hash, Debug)]
@@ -47,8 +47,8 @@ impl String {
         &self.0
     }
 
-    /// What Rattle's `write!` calls: appends what is shown, in parts, so that an error leaves those before it. Refused
-    /// memory is the only error, unless what is shown fails by itself.
+    /// What Rattle's `write!` calls: appends what is shown, in parts, so that an error leaves those before it. A
+    /// failed allocation is the only error, unless what is shown fails by itself.
     pub fn write_fmt(&mut self, shown: fmt::Arguments<'_>) -> Result<(), AllocError> {
         Growing(self).write_fmt(shown).map_err(|_error| AllocError)
     }

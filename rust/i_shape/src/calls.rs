@@ -1,8 +1,9 @@
 //! The proved functions over slices, with their codes as errors. Each tests whatever it requires of
 //! its arguments, but for `try_clean_into`, before which its conditions are tested here.
 
-use crate::erased::i_shape_c::codes::{NO_WINDING, Refusal};
+use crate::erased::i_shape_c::codes::{NO_SHAPE, NO_WINDING, Refusal};
 use crate::erased::i_shape_c::contour::clean_contour;
+use crate::erased::i_shape_c::holders::find_holders;
 use crate::erased::i_shape_c::location::{self, Telling, tell_points};
 use crate::erased::i_shape_c::measures::{ContourMeasure, measure_contours};
 use crate::erased::i_shape_c::places;
@@ -11,13 +12,16 @@ use crate::erased::i_shape_c::predicates::{self, ContourTest, test_contour};
 use crate::erased::i_shape_c::version::i_shape_version;
 use crate::erased::i_shape_c::{area, winding as about};
 use crate::erased::i_shape_contacts as edges;
+use crate::erased::i_shape_contacts::course::{Course, Cycle, Rings};
+use crate::erased::i_shape_contacts::kinds::kind_by;
+use crate::erased::i_shape_contacts::plain::are_in_contact;
 use crate::erased::i_shape_core::area::UnsafeArea;
 use crate::erased::i_shape_core::cleaner::ContourCleaner;
 use crate::erased::i_shape_core::fill_rule as proved_rule;
 use crate::erased::i_shape_core::point::{self as proved, ContourPoint};
-use crate::int::contacts::{Contact, Validity};
+use crate::int::contacts::{Contact, ContactKind, Validity};
 use crate::int::{IntNumber, IntPoint, WideIntNumber};
-use crate::memory::{copied, try_filled};
+use crate::memory::{copied, made_of_each, try_filled};
 use crate::{Error, FillRule, Location};
 use alloc::vec::Vec;
 use core::iter;
@@ -109,7 +113,7 @@ fn check_safe<I: IntNumber>(points: &[IntPoint<I>]) -> Result<(), Error> {
     }
 }
 
-/// If a call has refused a point: returns the error of the first unsafe one of those that it is
+/// If a call has the error of a point: returns the error of the first unsafe one of those that it is
 /// asked about, if there is one.
 fn check_about<I: IntNumber>(returned: isize, about: &[IntPoint<I>]) -> Result<(), Error> {
     if returned != Refusal::Unsafe.code() as isize {
@@ -258,7 +262,7 @@ impl<P: CPoint> Telling<P> for Located {
     }
 }
 
-/// Writes what is told of each point of `about` to the front of `out`.
+/// Writes the result of each point of `about` to the front of `out`.
 pub(crate) fn tell<T: Telling<IntPoint<I>>, I: IntNumber>(
     points: &[IntPoint<I>],
     offsets: &[usize],
@@ -270,6 +274,24 @@ pub(crate) fn tell<T: Telling<IntPoint<I>>, I: IntNumber>(
     let returned = tell_points::<_, T>(Global, points, offsets, about, code, out) as isize;
     check_about(returned, about)?;
     number_of_many(returned, points, offsets).map(drop)
+}
+
+/// Returns the index of the first polygon that the rule fills at each point of `about`.
+pub(crate) fn first_containing<I: IntNumber>(
+    points: &[IntPoint<I>],
+    contours: &[usize],
+    shapes: &[usize],
+    about: &[IntPoint<I>],
+    rule: FillRule,
+) -> Result<Vec<Option<usize>>, Error> {
+    let code = rule as i32;
+    let mut indices = try_filled(NO_SHAPE, about.len())?;
+    let returned = find_holders(Global, points, contours, shapes, about, code, &mut indices);
+    check_about(returned as isize, about)?;
+    number_of_many(returned as isize, points, contours)?;
+    made_of_each(indices.into_iter(), |index| {
+        Ok((index != NO_SHAPE).then_some(index))
+    })
 }
 
 /// Returns the first contact of the edges of a contour.
@@ -291,6 +313,95 @@ pub(crate) fn first_contact_of_many<I: IntNumber>(
     check_safe(points).map_err(|error| error.behind(before))?;
     let found = edges::first_contact_of_rings(Global, points, offsets);
     Ok(found.map(|found| contact_behind(before, found)))
+}
+
+/// Returns the contacts of the edges of a contour.
+pub(crate) fn contacts<I: IntNumber>(points: &[IntPoint<I>]) -> Result<Vec<Contact>, Error> {
+    check_safe(points)?;
+    listed(points.len(), 0, |out| edges::contacts(points, out))
+}
+
+/// Returns the contacts of the edges of all contours, whose offsets begin with 0 and end with the
+/// number of points. So many points lie before these.
+pub(crate) fn contacts_of_many<I: IntNumber>(
+    points: &[IntPoint<I>],
+    offsets: &[usize],
+    before: usize,
+) -> Result<Vec<Contact>, Error> {
+    debug_assert!(edges::do_divide(offsets, points.len()));
+    check_safe(points).map_err(|error| error.behind(before))?;
+    listed(points.len(), before, |out| {
+        edges::contacts_of_rings(points, offsets, out)
+    })
+}
+
+/// Returns the contacts that a call lists, which returns how many there are, also without room for
+/// them. It is called again if they have no room in so many items. So many points lie before these.
+fn listed(
+    room: usize,
+    before: usize,
+    list: impl Fn(&mut [edges::Contact]) -> usize,
+) -> Result<Vec<Contact>, Error> {
+    let blank = edges::Contact {
+        first: 0,
+        second: 0,
+    };
+    let mut out = try_filled(blank, room)?;
+    let count = list(&mut out);
+    if count > room {
+        out = try_filled(blank, count)?;
+        list(&mut out);
+    }
+    made_of_each(out[..count].iter(), |&found| {
+        Ok(contact_behind(before, found))
+    })
+}
+
+/// Returns the kind of a contact of the edges of a contour, `None` if it is none.
+pub(crate) fn kind_of_contact<I: IntNumber>(
+    points: &[IntPoint<I>],
+    contact: Contact,
+) -> Result<Option<ContactKind>, Error> {
+    check_safe(points)?;
+    let count = points.len();
+    Ok(kind_if_contact(points, Cycle { count }, contact))
+}
+
+/// Returns the kind of a contact of the edges of all contours, whose offsets begin with 0 and end with
+/// the number of points; `None` if it is none. So many points lie before these.
+pub(crate) fn kind_of_contact_of_many<I: IntNumber>(
+    points: &[IntPoint<I>],
+    offsets: &[usize],
+    before: usize,
+    contact: Contact,
+) -> Result<Option<ContactKind>, Error> {
+    debug_assert!(edges::do_divide(offsets, points.len()));
+    check_safe(points).map_err(|error| error.behind(before))?;
+    let Some(first) = contact.first.checked_sub(before) else {
+        return Ok(None);
+    };
+    let second = contact.second.saturating_sub(before);
+    let here = Contact { first, second };
+    Ok(kind_if_contact(points, Rings { offsets }, here))
+}
+
+/// Returns the kind of a contact, `None` if these edges aren't in contact. The points are safe.
+fn kind_if_contact<I: IntNumber>(
+    points: &[IntPoint<I>],
+    course: impl Course,
+    contact: Contact,
+) -> Option<ContactKind> {
+    let Contact { first, second } = contact;
+    if first >= second || second >= points.len() || !are_in_contact(points, course, first, second) {
+        return None;
+    }
+    Some(
+        match kind_by(points, course, edges::Contact { first, second }) {
+            edges::ContactKind::Crossing => ContactKind::Crossing,
+            edges::ContactKind::Touch => ContactKind::Touch,
+            edges::ContactKind::Overlap => ContactKind::Overlap,
+        },
+    )
 }
 
 /// Returns the same contact of a list in which so many points lie before.

@@ -1,8 +1,8 @@
-//! Why a call refuses.
+//! Why a call has an error.
 
 use core::fmt;
 
-/// Why a call refuses. On an error, slices lent to the call are unchanged unless it says otherwise.
+/// Why a call has an error. On an error, slices lent to the call are unchanged unless it says otherwise.
 #[derive(Clone, Copy, Debug, PartialEq, Eq, Hash)]
 #[non_exhaustive]
 pub enum Error {
@@ -28,16 +28,19 @@ pub enum Error {
     NoPoint,
 }
 
+/// The safe range, in the words of messages: an error doesn't know the width of its point.
+const SAFE_RANGE: &str = "safe range, strictly within ±2^14, ±2^30 or ±2^62 at 16, 32 or 64 bits";
+
 impl fmt::Display for Error {
     fn fmt(&self, formatter: &mut fmt::Formatter<'_>) -> fmt::Result {
         match self {
             Error::UnsafePoint(index) => {
-                write!(formatter, "point {index} isn't in the safe range")
+                write!(formatter, "point {index} isn't in the {SAFE_RANGE}")
             }
             Error::UnsafeAbout(index) => {
                 write!(
                     formatter,
-                    "point {index} of those asked about isn't in the safe range"
+                    "point {index} of those asked about isn't in the {SAFE_RANGE}"
                 )
             }
             Error::BadOffsets(Some(index)) => {

@@ -1,4 +1,4 @@
-//! Vectors whose growth returns an error if it is refused.
+//! Vectors whose growth returns an error if it fails.
 
 use crate::Error;
 use alloc::vec::Vec;

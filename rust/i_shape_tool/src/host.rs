@@ -9,19 +9,19 @@ const PART: usize = 1 << 14;
 
 /// Rattle's `read_to_end` of a reader. Rust's ends the program where some of its allocations fail.
 pub trait FallibleRead: Read {
-    /// Appends all bytes that are left. Memory is taken before the bytes that it is for are read, and where it is refused, the
-    /// error is `OutOfMemory`.
+    /// Appends all bytes that are left. Memory is taken before the bytes that it is for are read, and where that fails,
+    /// the error is `OutOfMemory`.
     fn fallible_read_to_end(&mut self, bytes: &mut Vec<u8>) -> io::Result<usize> {
         let start = bytes.len();
         let mut part = [0; PART];
         loop {
             if bytes.len() == bytes.capacity() {
-                bytes.reserve(PART).map_err(refused)?;
+                bytes.reserve(PART).map_err(no_memory)?;
             }
             let room = PART.min(bytes.capacity() - bytes.len());
             match self.read(&mut part[..room]) {
                 Ok(0) => return Ok(bytes.len() - start),
-                Ok(count) => bytes.extend_from_slice(&part[..count]).map_err(refused)?,
+                Ok(count) => bytes.extend_from_slice(&part[..count]).map_err(no_memory)?,
                 Err(error) if error.kind() == ErrorKind::Interrupted => {}
                 Err(error) => return Err(error),
             }
@@ -31,6 +31,6 @@ pub trait FallibleRead: Read {
 
 impl<R: Read + ?Sized> FallibleRead for R {}
 
-fn refused(_error: AllocError) -> io::Error {
+fn no_memory(_error: AllocError) -> io::Error {
     ErrorKind::OutOfMemory.into()
 }

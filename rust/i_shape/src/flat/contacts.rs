@@ -1,11 +1,11 @@
-//! First contacts of many contours, and of each of many polygons; which of these are valid.
+//! Contacts of many contours, and of each of many polygons; which of these are valid.
 
 use super::offsets::try_rebased;
 use super::{Contours, Shapes};
 use crate::Error;
-use crate::calls::{first_contact_of_many, validity_of};
+use crate::calls::{contacts_of_many, first_contact_of_many, kind_of_contact_of_many, validity_of};
 use crate::int::IntNumber;
-use crate::int::contacts::{Contact, Validity};
+use crate::int::contacts::{Contact, ContactKind, Validity};
 use crate::memory::made_of_each;
 use crate::twins::twins;
 use alloc::vec::Vec;
@@ -33,6 +33,48 @@ impl<I: IntNumber> Contours<'_, I> {
             let rebased = try_rebased(self.offsets)?;
             first_contact_of_many(&self.points[before..], &rebased, before)
         }
+
+        /// Returns all [contacts](crate::int::contacts) of the edges of all contours together, within a
+        /// contour or between two: by the first edge, and those of one edge by the second. Indices are
+        /// of [`points`](Contours::points). It tries all pairs of edges, again if there are more
+        /// contacts than points.
+        contacts, must_use;
+        /// Returns [`Error::UnsafePoint`] if a point of a contour isn't safe, [`Error::NoMemory`] if
+        /// there is none for as many contacts as points, for all contacts, or for a copy of the
+        /// offsets, which is made if the first of them is above 0.
+        pub fn try_contacts(self) -> Result<Vec<Contact>, Error> {
+            let before = self.offsets[0];
+            let rebased = try_rebased(self.offsets)?;
+            contacts_of_many(&self.points[before..], &rebased, before)
+        }
+
+        /// Returns whether two edges cross, touch or overlap, by indices of
+        /// [`points`](Contours::points). `None` if they aren't in contact, `first` isn't below
+        /// `second`, or no contour has a point.
+        ///
+        /// ```
+        /// use i_shape::flat::Contours;
+        /// use i_shape::int::AsIntPoints;
+        /// use i_shape::int::contacts::ContactKind;
+        ///
+        /// // a square, and in it a hole that touches its upper edge
+        /// let points = [[0_i32, 0], [9, 0], [9, 9], [0, 9], [2, 2], [4, 9], [6, 2]];
+        /// let contours = Contours::new(points.as_int_points(), &[0, 4, 7]);
+        /// let contacts = contours.contacts();
+        /// assert_eq!(contacts.len(), 2); // with the edges to and from (4, 9)
+        /// for contact in contacts {
+        ///     assert_eq!(contours.kind_of_contact(contact), Some(ContactKind::Touch));
+        /// }
+        /// ```
+        kind_of_contact, must_use;
+        /// Returns [`Error::UnsafePoint`] if a point of a contour isn't safe, also one of another edge.
+        /// If the first offset is above 0, the offsets are copied: [`Error::NoMemory`] if that
+        /// allocation fails.
+        pub fn try_kind_of_contact(self, contact: Contact) -> Result<Option<ContactKind>, Error> {
+            let before = self.offsets[0];
+            let rebased = try_rebased(self.offsets)?;
+            kind_of_contact_of_many(&self.points[before..], &rebased, before, contact)
+        }
     }
 }
 
@@ -46,6 +88,17 @@ impl<I: IntNumber> Shapes<'_, I> {
         /// there is none for the result or for a copy of a polygon's offsets.
         pub fn try_first_contacts(self) -> Result<Vec<Option<Contact>>, Error> {
             made_of_each(self.iter(), Contours::try_first_contact)
+        }
+
+        /// Returns of each polygon, in order, all [contacts](crate::int::contacts) of the edges of its
+        /// contours, as [`Contours::contacts`] does. Their indices are of [`points`](Shapes::points).
+        /// Edges of different polygons aren't compared. [`Contours::kind_of_contact`] of
+        /// [`as_contours`](Shapes::as_contours) takes them, and that of the polygon alone.
+        contacts, must_use;
+        /// Returns [`Error::UnsafePoint`] if a point of a polygon isn't safe, [`Error::NoMemory`] if an
+        /// allocation fails.
+        pub fn try_contacts(self) -> Result<Vec<Vec<Contact>>, Error> {
+            made_of_each(self.iter(), Contours::try_contacts)
         }
 
         /// Returns of each polygon, in order, the first [fault](crate::int::contacts::Validity), or

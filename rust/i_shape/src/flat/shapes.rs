@@ -4,7 +4,7 @@ use super::contours::Contours;
 use super::offsets::{append, ranges, try_append_part, try_fit, try_rebased, try_sum};
 use crate::calls::{
     Canonicalizer, CleanShapes, ContourSimplifier, Global, SpikeRemover, UnorientedCanonicalizer,
-    are_safe, clean_shapes, form_shapes, number_of_many,
+    are_safe, clean_shapes, first_containing, form_shapes, number_of_many,
 };
 use crate::int::shape::{IntContour, IntShapes};
 use crate::int::{IntNumber, IntPoint};
@@ -234,6 +234,38 @@ impl<'a, I: IntNumber> Shapes<'a, I> {
             rule: FillRule,
         ) -> Result<Vec<Location>, Error> {
             self.as_contours().try_locate(about, rule)
+        }
+
+        /// Returns of each of the points the index of the first polygon that a fill rule fills there,
+        /// by the contours of that polygon; `None` where it fills none. Polygons whose bounding box a
+        /// point isn't in are left out.
+        ///
+        /// ```
+        /// use i_shape::FillRule;
+        /// use i_shape::flat::Shapes;
+        /// use i_shape::int::AsIntPoints;
+        ///
+        /// // two squares side by side
+        /// let points = [[0_i32, 0], [4, 0], [4, 4], [0, 4], [4, 0], [8, 0], [8, 4], [4, 4]];
+        /// let parcels = Shapes::new(points.as_int_points(), &[0, 4, 8], &[0, 1, 2]);
+        /// let about = [[1_i32, 1], [4, 1], [9, 1]];
+        /// let found = parcels.first_containing(about.as_int_points(), FillRule::EvenOdd);
+        /// assert_eq!(found, [Some(0), Some(1), None]);
+        /// ```
+        #[doc(alias = "locate_in_shapes")]
+        first_containing, must_use;
+        /// Returns [`Error::UnsafeAbout`] if one of `about` isn't safe, [`Error::UnsafePoint`] if a
+        /// point of a polygon isn't, [`Error::NoMemory`] if there is none for the result, or for a copy
+        /// of the offsets of polygons, which is made if the first of them is above 0. It takes memory
+        /// for the boxes, and does without them if that allocation fails.
+        pub fn try_first_containing(
+            self,
+            about: &[IntPoint<I>],
+            rule: FillRule,
+        ) -> Result<Vec<Option<usize>>, Error> {
+            let contours = &self.contours[self.shapes[0]..];
+            let shapes = try_rebased(self.shapes)?;
+            first_containing(self.points, contours, &shapes, about, rule)
         }
     }
 

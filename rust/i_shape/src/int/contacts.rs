@@ -22,6 +22,19 @@
 //! quadratic time. They take memory for these boxes; if an allocation fails, they try all pairs of
 //! edges, with the same result.
 //!
+//! `contacts` returns them all, in quadratic time, and `kind_of_contact` whether two edges cross, touch
+//! or overlap.
+//!
+//! ```
+//! use i_shape::int::contacts::{ContactKind, ContourContacts};
+//! use i_shape::int_path;
+//!
+//! // a square with a spike
+//! let spiked = int_path![[0_i32, 0], [4, 0], [4, 8], [4, 4], [0, 4]];
+//! let kinds = spiked.contacts().into_iter().map(|contact| spiked.kind_of_contact(contact));
+//! assert!(kinds.eq([Some(ContactKind::Overlap), Some(ContactKind::Touch)]));
+//! ```
+//!
 //! A polygon is *valid* if none of its contours is degenerate, no two edges are in contact, each
 //! vertex of each hole lies inside the outer contour, and none lies inside another hole.
 //! [`ShapeValidity`] returns the first fault of a polygon, and
@@ -42,6 +55,7 @@ use super::{IntNumber, IntPoint};
 use crate::flat::OwnedContours;
 use crate::twins::twins;
 use crate::{Error, calls};
+use alloc::vec::Vec;
 
 /// Two edges that are in contact, each named by the index of the point from which it leads.
 #[derive(Clone, Copy, Debug, PartialEq, Eq, Hash)]
@@ -50,6 +64,21 @@ pub struct Contact {
     pub first: usize,
     /// That of the second one, above `first`.
     pub second: usize,
+}
+
+/// How two edges in contact lie to one another.
+///
+/// Paths may also cross at a vertex, where each edge of one only touches those of the other: no two
+/// edges cross there.
+#[derive(Clone, Copy, Debug, PartialEq, Eq, Hash)]
+pub enum ContactKind {
+    /// The ends of each edge lie on both sides of the line of the other, none on it: they share one
+    /// point, an end of neither.
+    Crossing,
+    /// They share one point, and don't cross.
+    Touch,
+    /// They share more than one point.
+    Overlap,
 }
 
 /// What is wrong with a polygon, if anything. The call that returns it says what the indices of
@@ -105,7 +134,7 @@ impl Validity {
     }
 }
 
-/// The first contact of a contour, and the test for a simple polygon.
+/// The contacts of a contour, and the test for a simple polygon.
 pub trait ContourContacts<I: IntNumber> {
     twins! {
         /// Returns the first contact: of the first edge that is in contact with one after it, that
@@ -116,6 +145,19 @@ pub trait ContourContacts<I: IntNumber> {
         first_contact, must_use;
         /// Returns [`Error::UnsafePoint`] if a point isn't safe.
         fn try_first_contact(&self) -> Result<Option<Contact>, Error>;
+
+        /// Returns all contacts, by the first edge, and those of one edge by the second. It tries all
+        /// pairs of edges, again if there are more contacts than points.
+        contacts, must_use;
+        /// Returns [`Error::UnsafePoint`] if a point isn't safe, [`Error::NoMemory`] if there is none
+        /// for as many contacts as points, or for all contacts.
+        fn try_contacts(&self) -> Result<Vec<Contact>, Error>;
+
+        /// Returns whether two edges cross, touch or overlap, `None` if they aren't in contact, `first`
+        /// isn't below `second`, or a point isn't there.
+        kind_of_contact, must_use;
+        /// Returns [`Error::UnsafePoint`] if a point isn't safe, also one of another edge.
+        fn try_kind_of_contact(&self, contact: Contact) -> Result<Option<ContactKind>, Error>;
 
         /// Returns whether the contour is the boundary of a simple polygon: it has at least three
         /// points, not all of them equal, and no contact.
@@ -132,6 +174,14 @@ pub trait ContourContacts<I: IntNumber> {
 impl<I: IntNumber> ContourContacts<I> for [IntPoint<I>] {
     fn try_first_contact(&self) -> Result<Option<Contact>, Error> {
         calls::first_contact(self)
+    }
+
+    fn try_contacts(&self) -> Result<Vec<Contact>, Error> {
+        calls::contacts(self)
+    }
+
+    fn try_kind_of_contact(&self, contact: Contact) -> Result<Option<ContactKind>, Error> {
+        calls::kind_of_contact(self, contact)
     }
 
     fn try_is_simple_polygon(&self) -> Result<bool, Error> {

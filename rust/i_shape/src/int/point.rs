@@ -184,8 +184,8 @@ const _: () = assert!(is_laid_out::<i16>() && is_laid_out::<i32>() && is_laid_ou
 /// assert_eq!(corners, [parcel[0], parcel[2], parcel[3]]);
 /// ```
 ///
-/// The compiler refuses a struct with another layout. `repr(C)` is how a struct promises its
-/// layout; without it the compiler may refuse the struct one day. A third field is refused, even
+/// The compiler rejects a struct with another layout. `repr(C)` is how a struct promises its
+/// layout; without it the compiler may reject the struct one day. A third field is rejected, even
 /// one without size:
 ///
 /// ```compile_fail
@@ -329,7 +329,7 @@ macro_rules! contour_point {
                 "the two fields don't lie one after the other, x first"
             );
             // by value, and of a whole pattern: a third field, or what is no number of this type,
-            // is refused
+            // is rejected
             const fn _coordinates(point: $point) -> [$number; 2] {
                 type Given = $point;
                 let Given { $x: x, $y: y } = point;

@@ -265,7 +265,7 @@ pub(super) fn of_each<T, U>(
     })
 }
 
-/// Returns whether each item passes a test; the first refusal or `false` ends it.
+/// Returns whether each item passes a test; the first error or `false` ends it.
 pub(super) fn each<T>(
     items: &[T],
     points_count: impl Fn(&T) -> usize,

@@ -1,11 +1,11 @@
-//! Each error of each call, by the form that answers it and by the one that panics with its text.
+//! Each error of each call, by the form that returns it and by the one that panics with its text.
 
 use crate::shared::{Number, SQUARE, STRAIGHT, at_each_width, contour, point};
 use i_shape::flat::{Contours, OwnedShapes, Shapes};
 use i_shape::int::IntPoint;
 use i_shape::int::area::Area;
 use i_shape::int::canonical::{CanonicalShape, CanonicalShapes};
-use i_shape::int::contacts::ContourContacts;
+use i_shape::int::contacts::{Contact, ContourContacts};
 use i_shape::int::despike::{DeSpike, DeSpikeContour, DeSpikeShape, DeSpikeShapes};
 use i_shape::int::path::ContourExtension;
 use i_shape::int::shape::{IntContour, IntShape};
@@ -25,8 +25,8 @@ at_each_width!(
     nothing_is_written
 );
 
-/// A form that tries has answered the error, and the other form panics with its text.
-fn refuses<T, U>(error: Error, answer: Result<T, Error>, panics: impl FnOnce() -> U) {
+/// A form that tries has returned the error, and the other form panics with its text.
+fn has_error<T, U>(error: Error, answer: Result<T, Error>, panics: impl FnOnce() -> U) {
     assert_eq!(answer.err(), Some(error));
     let panic = catch_unwind(AssertUnwindSafe(panics))
         .err()
@@ -34,14 +34,19 @@ fn refuses<T, U>(error: Error, answer: Result<T, Error>, panics: impl FnOnce() -
     assert_eq!(panic.downcast_ref::<String>(), Some(&error.to_string()));
 }
 
-/// The same of a method: `refuses!(error, receiver, the form that tries, the form that panics,
+/// The same of a method: `has_error!(error, receiver, the form that tries, the form that panics,
 /// arguments)`.
-macro_rules! refuses {
+macro_rules! has_error {
     ($error:expr, $receiver:expr, $tried:ident, $panics:ident $(, $argument:expr)*) => {
         let answer = $receiver.$tried($($argument),*).map(|_| ());
-        refuses($error, answer, || $receiver.$panics($($argument),*))
+        has_error($error, answer, || $receiver.$panics($($argument),*))
     };
 }
+
+const EDGES: Contact = Contact {
+    first: 0,
+    second: 2,
+};
 
 fn spoilt<I: Number>() -> IntContour<I> {
     let mut contour = contour(&STRAIGHT);
@@ -53,35 +58,37 @@ fn contours_with_an_unsafe_point<I: Number>() {
     let error = Error::UnsafePoint(3);
     let (given, inside) = (spoilt::<I>(), point::<I>([1, 1]));
     let mut out = given.clone();
-    refuses!(error, given, try_is_simple, is_simple);
-    refuses!(error, given, try_simplified, simplified);
-    refuses!(error, given, try_canonical, canonical);
-    refuses!(error, given, try_canonical_unoriented, canonical_unoriented);
-    refuses!(error, given, try_simplify_into, simplify_into, &mut out);
-    refuses!(error, given, try_canonical_into, canonical_into, &mut out);
-    refuses!(
+    has_error!(error, given, try_is_simple, is_simple);
+    has_error!(error, given, try_simplified, simplified);
+    has_error!(error, given, try_canonical, canonical);
+    has_error!(error, given, try_canonical_unoriented, canonical_unoriented);
+    has_error!(error, given, try_simplify_into, simplify_into, &mut out);
+    has_error!(error, given, try_canonical_into, canonical_into, &mut out);
+    has_error!(
         error,
         given,
         try_canonical_unoriented_into,
         canonical_unoriented_into,
         &mut out
     );
-    refuses!(error, given, try_has_no_spikes, has_no_spikes);
-    refuses!(error, given, try_despiked_contour, despiked_contour);
-    refuses!(error, given, try_despike_into, despike_into, &mut out);
-    refuses!(error, given, try_is_convex, is_convex);
-    refuses!(error, given, try_first_contact, first_contact);
-    refuses!(error, given, try_is_simple_polygon, is_simple_polygon);
+    has_error!(error, given, try_has_no_spikes, has_no_spikes);
+    has_error!(error, given, try_despiked_contour, despiked_contour);
+    has_error!(error, given, try_despike_into, despike_into, &mut out);
+    has_error!(error, given, try_is_convex, is_convex);
+    has_error!(error, given, try_first_contact, first_contact);
+    has_error!(error, given, try_contacts, contacts);
+    has_error!(error, given, try_kind_of_contact, kind_of_contact, EDGES);
+    has_error!(error, given, try_is_simple_polygon, is_simple_polygon);
     // also of fewer than three points
-    refuses!(
+    has_error!(
         Error::UnsafePoint(0),
         given[3..],
         try_is_simple_polygon,
         is_simple_polygon
     );
-    refuses!(error, given, try_contains_point, contains_point, inside);
-    refuses!(error, given, try_winding_number, winding_number, inside);
-    refuses!(
+    has_error!(error, given, try_contains_point, contains_point, inside);
+    has_error!(error, given, try_winding_number, winding_number, inside);
+    has_error!(
         error,
         given,
         try_contains_by,
@@ -89,14 +96,14 @@ fn contours_with_an_unsafe_point<I: Number>() {
         inside,
         FillRule::NonZero
     );
-    refuses!(
+    has_error!(
         error,
         given,
         try_winding_numbers,
         winding_numbers,
         &[inside]
     );
-    refuses!(
+    has_error!(
         error,
         given,
         try_contains_points,
@@ -104,7 +111,7 @@ fn contours_with_an_unsafe_point<I: Number>() {
         &[inside],
         FillRule::NonZero
     );
-    refuses!(
+    has_error!(
         error,
         given,
         try_locate,
@@ -112,9 +119,9 @@ fn contours_with_an_unsafe_point<I: Number>() {
         &[inside],
         FillRule::NonZero
     );
-    refuses!(error, given, try_is_on_boundary, is_on_boundary, inside);
+    has_error!(error, given, try_is_on_boundary, is_on_boundary, inside);
     let mut simplifier = ContourSimplifier::default();
-    refuses!(
+    has_error!(
         error,
         simplifier,
         try_simplify_contour,
@@ -122,8 +129,8 @@ fn contours_with_an_unsafe_point<I: Number>() {
         &given
     );
     let mut left = given.clone();
-    refuses!(error, left, try_simplify_contour, simplify_contour);
-    refuses!(error, left, try_remove_spikes, remove_spikes);
+    has_error!(error, left, try_simplify_contour, simplify_contour);
+    has_error!(error, left, try_remove_spikes, remove_spikes);
     assert_eq!(left, given);
     assert!(given.try_area_two().is_ok());
 }
@@ -131,15 +138,15 @@ fn contours_with_an_unsafe_point<I: Number>() {
 fn shapes_with_an_unsafe_point<I: Number>() {
     let error = Error::UnsafePoint(4 + 3);
     let shape: IntShape<I> = vec![contour(&SQUARE), spoilt()];
-    refuses!(error, shape, try_is_simple, is_simple);
-    refuses!(error, shape, try_simplified, simplified);
-    refuses!(error, shape, try_has_no_spikes, has_no_spikes);
-    refuses!(error, shape, try_despiked_shape, despiked_shape);
-    refuses!(error, shape, try_canonical, canonical);
-    refuses!(error, shape, try_canonical_unoriented, canonical_unoriented);
+    has_error!(error, shape, try_is_simple, is_simple);
+    has_error!(error, shape, try_simplified, simplified);
+    has_error!(error, shape, try_has_no_spikes, has_no_spikes);
+    has_error!(error, shape, try_despiked_shape, despiked_shape);
+    has_error!(error, shape, try_canonical, canonical);
+    has_error!(error, shape, try_canonical_unoriented, canonical_unoriented);
     let inside = point([1, 1]);
-    refuses!(error, shape, try_winding_number, winding_number, inside);
-    refuses!(
+    has_error!(error, shape, try_winding_number, winding_number, inside);
+    has_error!(
         error,
         shape,
         try_contains_by,
@@ -147,14 +154,14 @@ fn shapes_with_an_unsafe_point<I: Number>() {
         inside,
         FillRule::EvenOdd
     );
-    refuses!(
+    has_error!(
         error,
         shape,
         try_winding_numbers,
         winding_numbers,
         &[inside]
     );
-    refuses!(
+    has_error!(
         error,
         shape,
         try_contains_points,
@@ -162,7 +169,7 @@ fn shapes_with_an_unsafe_point<I: Number>() {
         &[inside],
         FillRule::EvenOdd
     );
-    refuses!(
+    has_error!(
         error,
         shape,
         try_locate,
@@ -172,23 +179,23 @@ fn shapes_with_an_unsafe_point<I: Number>() {
     );
     // on an edge of the contour before the one with that point
     let edge = point([4, 1]);
-    refuses!(error, shape, try_is_on_boundary, is_on_boundary, edge);
+    has_error!(error, shape, try_is_on_boundary, is_on_boundary, edge);
     let mut left = shape.clone();
-    refuses!(error, left, try_simplify_contour, simplify_contour);
-    refuses!(error, left, try_remove_spikes, remove_spikes);
+    has_error!(error, left, try_simplify_contour, simplify_contour);
+    has_error!(error, left, try_remove_spikes, remove_spikes);
     assert_eq!(left, shape);
 
     let error = Error::UnsafePoint(4 + 4 + 3);
     let list = vec![vec![contour(&SQUARE)], shape];
-    refuses!(error, list, try_is_simple, is_simple);
-    refuses!(error, list, try_simplified, simplified);
-    refuses!(error, list, try_has_no_spikes, has_no_spikes);
-    refuses!(error, list, try_despiked_shapes, despiked_shapes);
-    refuses!(error, list, try_canonical, canonical);
-    refuses!(error, list, try_canonical_unoriented, canonical_unoriented);
+    has_error!(error, list, try_is_simple, is_simple);
+    has_error!(error, list, try_simplified, simplified);
+    has_error!(error, list, try_has_no_spikes, has_no_spikes);
+    has_error!(error, list, try_despiked_shapes, despiked_shapes);
+    has_error!(error, list, try_canonical, canonical);
+    has_error!(error, list, try_canonical_unoriented, canonical_unoriented);
     let mut left = list.clone();
-    refuses!(error, left, try_simplify_contour, simplify_contour);
-    refuses!(error, left, try_remove_spikes, remove_spikes);
+    has_error!(error, left, try_simplify_contour, simplify_contour);
+    has_error!(error, left, try_remove_spikes, remove_spikes);
     assert_eq!(left, list);
 }
 
@@ -198,27 +205,43 @@ fn batches_with_an_unsafe_point<I: Number>() {
     let mut out = (points.clone(), [0; 2], [0; 2]);
     // an error counts the points before the first contour, too
     let behind = Contours::new(&points, &[2, 5]);
-    refuses!(error, behind, try_simplified, simplified);
-    refuses!(error, behind, try_first_contact, first_contact);
+    has_error!(error, behind, try_simplified, simplified);
+    has_error!(error, behind, try_first_contact, first_contact);
+    has_error!(error, behind, try_contacts, contacts);
+    has_error!(error, behind, try_kind_of_contact, kind_of_contact, EDGES);
     let behind = Shapes::new(&points, &[0, 2, 5], &[1, 2]);
-    refuses!(error, behind, try_simplified, simplified);
-    refuses!(error, behind, try_first_contacts, first_contacts);
+    has_error!(error, behind, try_simplified, simplified);
+    has_error!(error, behind, try_first_contacts, first_contacts);
+    has_error!(error, behind, try_contacts, contacts);
     let apart = Shapes::new(&points, &[0, 2, 5], &[0, 1, 2]);
-    refuses!(error, apart, try_first_contacts, first_contacts);
-    refuses!(error, behind, try_validity, validity);
-    refuses!(error, apart, try_validity, validity);
+    has_error!(error, apart, try_first_contacts, first_contacts);
+    has_error!(error, apart, try_contacts, contacts);
+    for polygons in [behind, apart] {
+        has_error!(
+            error,
+            polygons,
+            try_first_containing,
+            first_containing,
+            &[point([1, 1])],
+            FillRule::EvenOdd
+        );
+    }
+    has_error!(error, behind, try_validity, validity);
+    has_error!(error, apart, try_validity, validity);
     let contours = Contours::new(&points, &[0, 5]);
-    refuses!(error, contours, try_simplified, simplified);
-    refuses!(error, contours, try_first_contact, first_contact);
-    refuses!(error, contours, try_despiked, despiked);
-    refuses!(error, contours, try_canonical, canonical);
-    refuses!(
+    has_error!(error, contours, try_simplified, simplified);
+    has_error!(error, contours, try_first_contact, first_contact);
+    has_error!(error, contours, try_contacts, contacts);
+    has_error!(error, contours, try_kind_of_contact, kind_of_contact, EDGES);
+    has_error!(error, contours, try_despiked, despiked);
+    has_error!(error, contours, try_canonical, canonical);
+    has_error!(
         error,
         contours,
         try_canonical_unoriented,
         canonical_unoriented
     );
-    refuses!(
+    has_error!(
         error,
         contours,
         try_simplify_into,
@@ -226,7 +249,7 @@ fn batches_with_an_unsafe_point<I: Number>() {
         &mut out.0,
         &mut out.1
     );
-    refuses!(
+    has_error!(
         error,
         contours,
         try_despike_into,
@@ -234,7 +257,7 @@ fn batches_with_an_unsafe_point<I: Number>() {
         &mut out.0,
         &mut out.1
     );
-    refuses!(
+    has_error!(
         error,
         contours,
         try_canonical_into,
@@ -242,7 +265,7 @@ fn batches_with_an_unsafe_point<I: Number>() {
         &mut out.0,
         &mut out.1
     );
-    refuses!(
+    has_error!(
         error,
         contours,
         try_canonical_unoriented_into,
@@ -250,18 +273,18 @@ fn batches_with_an_unsafe_point<I: Number>() {
         &mut out.0,
         &mut out.1
     );
-    refuses!(error, contours, try_are_simple, are_simple);
-    refuses!(error, contours, try_have_no_spikes, have_no_spikes);
-    refuses!(error, contours, try_are_convex, are_convex);
+    has_error!(error, contours, try_are_simple, are_simple);
+    has_error!(error, contours, try_have_no_spikes, have_no_spikes);
+    has_error!(error, contours, try_are_convex, are_convex);
     let about = [point([1, 1])];
-    refuses!(
+    has_error!(
         error,
         contours,
         try_winding_numbers,
         winding_numbers,
         &about
     );
-    refuses!(
+    has_error!(
         error,
         contours,
         try_winding_numbers_into,
@@ -269,7 +292,7 @@ fn batches_with_an_unsafe_point<I: Number>() {
         &about,
         &mut [0]
     );
-    refuses!(
+    has_error!(
         error,
         contours,
         try_contains_points,
@@ -277,7 +300,7 @@ fn batches_with_an_unsafe_point<I: Number>() {
         &about,
         FillRule::EvenOdd
     );
-    refuses!(
+    has_error!(
         error,
         contours,
         try_locate,
@@ -287,17 +310,17 @@ fn batches_with_an_unsafe_point<I: Number>() {
     );
 
     let shapes = Shapes::new(&points, &[0, 5], &[0, 1]);
-    refuses!(error, shapes, try_simplified, simplified);
-    refuses!(error, shapes, try_spikes_removed, spikes_removed);
-    refuses!(error, shapes, try_canonical, canonical);
-    refuses!(
+    has_error!(error, shapes, try_simplified, simplified);
+    has_error!(error, shapes, try_spikes_removed, spikes_removed);
+    has_error!(error, shapes, try_canonical, canonical);
+    has_error!(
         error,
         shapes,
         try_canonical_unoriented,
         canonical_unoriented
     );
     let (points, contours, ends) = (&mut out.0, &mut out.1, &mut out.2);
-    refuses!(
+    has_error!(
         error,
         shapes,
         try_simplify_into,
@@ -306,7 +329,7 @@ fn batches_with_an_unsafe_point<I: Number>() {
         contours,
         ends
     );
-    refuses!(
+    has_error!(
         error,
         shapes,
         try_remove_spikes_into,
@@ -315,7 +338,7 @@ fn batches_with_an_unsafe_point<I: Number>() {
         contours,
         ends
     );
-    refuses!(
+    has_error!(
         error,
         shapes,
         try_canonical_into,
@@ -324,7 +347,7 @@ fn batches_with_an_unsafe_point<I: Number>() {
         contours,
         ends
     );
-    refuses!(
+    has_error!(
         error,
         shapes,
         try_canonical_unoriented_into,
@@ -339,18 +362,29 @@ fn points_asked_about<I: Number>() {
     let error = Error::UnsafeAbout(0);
     let given = contour::<I>(&SQUARE);
     let outside = IntPoint::new(I::ABOVE, I::ZERO);
-    refuses!(error, given, try_contains_point, contains_point, outside);
-    refuses!(error, given, try_winding_number, winding_number, outside);
-    refuses!(
+    has_error!(error, given, try_contains_point, contains_point, outside);
+    has_error!(error, given, try_winding_number, winding_number, outside);
+    has_error!(
         error,
         given,
         try_winding_numbers,
         winding_numbers,
         &[outside]
     );
+    for ends in [&[0][..], &[0, 1]] {
+        let polygons = Shapes::new(&given, &[0, 4], ends);
+        has_error!(
+            error,
+            polygons,
+            try_first_containing,
+            first_containing,
+            &[outside],
+            FillRule::NonZero
+        );
+    }
     for shape in [vec![], vec![given]] {
-        refuses!(error, shape, try_winding_number, winding_number, outside);
-        refuses!(
+        has_error!(error, shape, try_winding_number, winding_number, outside);
+        has_error!(
             error,
             shape,
             try_contains_by,
@@ -358,15 +392,15 @@ fn points_asked_about<I: Number>() {
             outside,
             FillRule::NonZero
         );
-        refuses!(
+        has_error!(
             error,
             shape,
             try_winding_numbers,
             winding_numbers,
             &[outside]
         );
-        refuses!(error, shape, try_is_on_boundary, is_on_boundary, outside);
-        refuses!(
+        has_error!(error, shape, try_is_on_boundary, is_on_boundary, outside);
+        has_error!(
             error,
             shape,
             try_locate,
@@ -381,10 +415,10 @@ fn slices_that_are_too_short<I: Number>() {
     let error = Error::NoRoom;
     let given = contour::<I>(&STRAIGHT);
     let mut short = contour::<I>(&SQUARE);
-    refuses!(error, given, try_simplify_into, simplify_into, &mut short);
-    refuses!(error, given, try_despike_into, despike_into, &mut short);
-    refuses!(error, given, try_canonical_into, canonical_into, &mut short);
-    refuses!(
+    has_error!(error, given, try_simplify_into, simplify_into, &mut short);
+    has_error!(error, given, try_despike_into, despike_into, &mut short);
+    has_error!(error, given, try_canonical_into, canonical_into, &mut short);
+    has_error!(
         error,
         given,
         try_canonical_unoriented_into,
@@ -394,7 +428,7 @@ fn slices_that_are_too_short<I: Number>() {
 
     let contours = Contours::new(&given, &[0, 5]);
     let about = [point([1, 1]); 2];
-    refuses!(
+    has_error!(
         error,
         contours,
         try_winding_numbers_into,
@@ -405,7 +439,7 @@ fn slices_that_are_too_short<I: Number>() {
     // the points of the answer are one too few, and then its offsets
     for (points, offsets) in [(4, 2), (5, 1)] {
         let (points, offsets) = (&mut given.clone()[..points], &mut [0; 2][..offsets]);
-        refuses!(
+        has_error!(
             error,
             contours,
             try_simplify_into,
@@ -413,7 +447,7 @@ fn slices_that_are_too_short<I: Number>() {
             points,
             offsets
         );
-        refuses!(
+        has_error!(
             error,
             contours,
             try_despike_into,
@@ -421,7 +455,7 @@ fn slices_that_are_too_short<I: Number>() {
             points,
             offsets
         );
-        refuses!(
+        has_error!(
             error,
             contours,
             try_canonical_into,
@@ -429,7 +463,7 @@ fn slices_that_are_too_short<I: Number>() {
             points,
             offsets
         );
-        refuses!(
+        has_error!(
             error,
             contours,
             try_canonical_unoriented_into,
@@ -443,7 +477,7 @@ fn slices_that_are_too_short<I: Number>() {
     for (points, contours, ends) in [(4, 2, 2), (5, 1, 2), (5, 2, 1)] {
         let points = &mut given.clone()[..points];
         let (contours, ends) = (&mut [0; 2][..contours], &mut [0; 2][..ends]);
-        refuses!(
+        has_error!(
             error,
             shapes,
             try_simplify_into,
@@ -452,7 +486,7 @@ fn slices_that_are_too_short<I: Number>() {
             contours,
             ends
         );
-        refuses!(
+        has_error!(
             error,
             shapes,
             try_remove_spikes_into,
@@ -461,7 +495,7 @@ fn slices_that_are_too_short<I: Number>() {
             contours,
             ends
         );
-        refuses!(
+        has_error!(
             error,
             shapes,
             try_canonical_into,
@@ -470,7 +504,7 @@ fn slices_that_are_too_short<I: Number>() {
             contours,
             ends
         );
-        refuses!(
+        has_error!(
             error,
             shapes,
             try_canonical_unoriented_into,
@@ -493,9 +527,9 @@ fn offsets_that_are_bad<I: Number>() {
     for (offsets, place) in bad {
         let error = Error::BadOffsets(place);
         let answer = Contours::try_new(&points, offsets);
-        refuses(error, answer, || Contours::new(&points, offsets));
+        has_error(error, answer, || Contours::new(&points, offsets));
         let answer = Shapes::try_new(&points, offsets, &[0]);
-        refuses(error, answer, || Shapes::new(&points, offsets, &[0]));
+        has_error(error, answer, || Shapes::new(&points, offsets, &[0]));
     }
     let bad: [(&[usize], _); 4] = [
         (&[], None),
@@ -505,19 +539,19 @@ fn offsets_that_are_bad<I: Number>() {
     ];
     for (shapes, place) in bad {
         let answer = Shapes::try_new(&points, &[0, 2, 4], shapes);
-        refuses(Error::BadShapeOffsets(place), answer, || {
+        has_error(Error::BadShapeOffsets(place), answer, || {
             Shapes::new(&points, &[0, 2, 4], shapes)
         });
     }
     use i_shape::flat::offsets::{from_lengths, from_ranges, try_from_lengths, try_from_ranges};
     let lengths = [usize::MAX, 2];
-    refuses(
+    has_error(
         Error::BadOffsets(Some(2)),
         try_from_lengths(lengths),
         || from_lengths(lengths),
     );
     let apart = [0..2, 3..4];
-    refuses(Error::BadOffsets(Some(2)), try_from_ranges(&apart), || {
+    has_error(Error::BadOffsets(Some(2)), try_from_ranges(&apart), || {
         from_ranges(&apart)
     });
 }
@@ -525,15 +559,15 @@ fn offsets_that_are_bad<I: Number>() {
 fn contours_without_a_point<I: Number>() {
     let error = Error::NoPoint;
     let none = contour::<I>(&[]);
-    refuses!(error, none, try_area_two, area_two);
-    refuses!(error, none, try_area, area);
-    refuses!(error, none, try_is_clockwise_ordered, is_clockwise_ordered);
+    has_error!(error, none, try_area_two, area_two);
+    has_error!(error, none, try_area, area);
+    has_error!(error, none, try_is_clockwise_ordered, is_clockwise_ordered);
     let shape = vec![contour::<I>(&SQUARE), none];
-    refuses!(error, shape, try_area_two, area_two);
-    refuses!(error, shape, try_area, area);
+    has_error!(error, shape, try_area_two, area_two);
+    has_error!(error, shape, try_area, area);
     let list = [shape];
-    refuses!(error, list, try_area_two, area_two);
-    refuses!(error, list, try_area, area);
+    has_error!(error, list, try_area_two, area_two);
+    has_error!(error, list, try_area, area);
 }
 
 fn nothing_is_written<I: Number>() {

@@ -64,6 +64,70 @@ pub fn walk_round<I: Number + TryFrom<i32>>(side: i32) -> IntContour<I> {
     right.chain(up).chain(left).chain(down).collect()
 }
 
+/// A point of contours, and the index of the one that follows it.
+pub struct Place {
+    pub at: [i64; 2],
+    pub next: usize,
+}
+
+impl Place {
+    /// Those of the contours, end to end.
+    pub fn of(contours: &[&Written]) -> Vec<Place> {
+        let mut places = Vec::new();
+        for contour in contours {
+            let start = places.len();
+            places.extend(contour.iter().enumerate().map(|(k, at)| Place {
+                at: at.map(i64::from),
+                next: start + (k + 1) % contour.len(),
+            }));
+        }
+        places
+    }
+}
+
+/// Numbers in no order to be seen, the same of each seed.
+pub struct Numbers(u64);
+
+impl Numbers {
+    pub fn new(seed: u64) -> Self {
+        Numbers(seed)
+    }
+
+    /// A number from 0 to below the bound.
+    pub fn below(&mut self, bound: i8) -> i8 {
+        self.0 = self.0.wrapping_mul(6_364_136_223_846_793_005);
+        self.0 = self.0.wrapping_add(1_442_695_040_888_963_407);
+        i8::try_from((self.0 >> 33) % u64::try_from(bound).unwrap()).unwrap()
+    }
+
+    /// A contour of at most so many points, on a grid of that side.
+    pub fn contour(&mut self, most: i8, side: i8) -> Vec<[i8; 2]> {
+        let count = self.below(most + 1);
+        (0..count)
+            .map(|_| [self.below(side), self.below(side)])
+            .collect()
+    }
+
+    /// At most so many contours.
+    pub fn contours(&mut self, count: i8, most: i8, side: i8) -> Vec<Vec<[i8; 2]>> {
+        let count = self.below(count + 1);
+        (0..count).map(|_| self.contour(most, side)).collect()
+    }
+
+    /// So many polygons, on small grids that lie at any place of one of that side.
+    pub fn moved_polygons(&mut self, count: i8, side: i8) -> Vec<Vec<Vec<[i8; 2]>>> {
+        let moved = |numbers: &mut Self| {
+            let by = [numbers.below(side - 3), numbers.below(side - 3)];
+            let mut contours = numbers.contours(3, 6, 4);
+            for point in contours.iter_mut().flatten() {
+                *point = [point[0] + by[0], point[1] + by[1]];
+            }
+            contours
+        };
+        (0..count).map(|_| moved(self)).collect()
+    }
+}
+
 /// A test at each width.
 macro_rules! at_each_width {
     ($($test:ident),* $(,)?) => {

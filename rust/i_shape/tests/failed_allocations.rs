@@ -1,5 +1,5 @@
-//! Each growth of memory that a call asks for is refused in turn: the call returns `Error::NoMemory`.
-//! Where none is refused it succeeds.
+//! Each growth of memory that a call asks for fails in turn: the call returns `Error::NoMemory`.
+//! Where none fails it succeeds.
 #![allow(unsafe_code, reason = "an allocator is unsafe")]
 
 #[allow(dead_code)]
@@ -27,7 +27,7 @@ use std::ptr;
 at_each_width!(contours, shapes_and_lists, batches);
 
 thread_local! {
-    /// How many growths of this thread succeed before one is refused.
+    /// How many growths of this thread succeed before one fails.
     static GRANTED: Cell<usize> = const { Cell::new(usize::MAX) };
 }
 
@@ -40,10 +40,10 @@ fn is_granted() -> bool {
     left != 0
 }
 
-struct Refusing;
+struct Failing;
 
-// SAFETY: each call is passed on, or refused as the trait allows.
-unsafe impl GlobalAlloc for Refusing {
+// SAFETY: each call is passed on, or fails as the trait allows.
+unsafe impl GlobalAlloc for Failing {
     unsafe fn alloc(&self, layout: Layout) -> *mut u8 {
         if is_granted() {
             unsafe { System.alloc(layout) }
@@ -66,9 +66,9 @@ unsafe impl GlobalAlloc for Refusing {
 }
 
 #[global_allocator]
-static ALLOCATOR: Refusing = Refusing;
+static ALLOCATOR: Failing = Failing;
 
-/// Refuses the growths of a call one by one, until it succeeds with this many.
+/// Makes the growths of a call fail one by one, until it succeeds with this many.
 #[track_caller]
 fn growths<T>(call: impl Fn() -> Result<T, Error>) -> usize {
     for granted in 0..100 {
@@ -85,7 +85,7 @@ fn growths<T>(call: impl Fn() -> Result<T, Error>) -> usize {
 
 type CleanInto<I> = fn(&[IntPoint<I>], &mut [IntPoint<I>]) -> Result<usize, Error>;
 
-/// The growths of a call that writes into a slice, which is as it was where the call refuses.
+/// The growths of a call that writes into a slice, which is as it was where the call fails.
 fn growths_of_written<I: Number>(given: &[IntPoint<I>], clean_into: CleanInto<I>) -> usize {
     let before = [point([9, 9]); 6];
     growths(|| {
@@ -138,6 +138,17 @@ fn contours<I: Number>() {
     // nor does one that could do with some
     assert_eq!(growths(|| spiked.try_is_on_boundary(about[0])), 0);
     assert_eq!(growths(|| spiked.try_first_contact()), 0);
+    let edges = Contact {
+        first: 1,
+        second: 3,
+    };
+    assert_eq!(growths(|| spiked.try_kind_of_contact(edges)), 0);
+    // room for as many contacts as points, and for those that there are
+    assert_eq!(growths(|| clean.try_contacts()), 1);
+    assert_eq!(growths(|| spiked.try_contacts()), 2);
+    // and for more than points
+    let zigzag = [[0, 0], [4, 0]].map(point::<I>).repeat(5);
+    assert_eq!(growths(|| zigzag.try_contacts()), 3);
     assert_eq!(growths(|| clean.try_is_simple_polygon()), 0);
 }
 
@@ -205,6 +216,33 @@ fn contacts_are_the_same_without_memory() {
 }
 
 #[test]
+fn holders_are_the_same_without_memory() {
+    let rings = [&SQUARE[..], &STRAIGHT, &SPIKED].map(contour::<i32>);
+    let flat = OwnedContours::from_contours(&rings);
+    let polygons = Shapes::new(flat.points(), flat.offsets(), &[0, 1, 2, 3]);
+    let behind = Shapes::new(flat.points(), flat.offsets(), &[1, 2, 3]);
+    let about = [[1, 1], [9, 9]].map(point);
+    let found = Ok(vec![Some(0), None]);
+    let refused = Err(Error::NoMemory);
+    let ask = |polygons: Shapes<'_, i32>, granted| {
+        GRANTED.set(granted);
+        let answer = polygons.try_first_containing(&about, FillRule::NonZero);
+        GRANTED.set(usize::MAX);
+        answer
+    };
+    // of indices, of boxes, and of the result
+    let wanted = [&refused, &found, &refused, &found];
+    for (granted, wanted) in wanted.into_iter().enumerate() {
+        assert_eq!(&ask(polygons, granted), wanted);
+    }
+    // before these, of the offsets
+    let wanted = [&refused, &refused, &found, &refused, &found];
+    for (granted, wanted) in wanted.into_iter().enumerate() {
+        assert_eq!(&ask(behind, granted), wanted);
+    }
+}
+
+#[test]
 fn other_forms_panic_with_the_text() {
     let given = contour::<i32>(&STRAIGHT);
     let panics = |call: &dyn Fn()| {
@@ -243,6 +281,15 @@ fn batches<I: Number>() {
     assert!(growths(|| behind.try_simplified()) > 3);
     assert_eq!(growths(|| all.try_first_contact()), 0);
     assert_eq!(growths(|| behind.try_first_contact()), 1);
+    let edges = Contact {
+        first: 4,
+        second: 9,
+    };
+    // these have more contacts than points
+    assert_eq!(growths(|| all.try_contacts()), 3);
+    assert_eq!(growths(|| behind.try_contacts()), 4);
+    assert_eq!(growths(|| all.try_kind_of_contact(edges)), 0);
+    assert_eq!(growths(|| behind.try_kind_of_contact(edges)), 1);
     let about = [point([1, 1]); 3];
     assert_eq!(growths(|| all.try_are_simple()), 1);
     assert_eq!(growths(|| all.try_have_no_spikes()), 1);

@@ -1,4 +1,4 @@
-//! What the shim does where memory is refused, beside the contracts of Rattle's std.
+//! What the shim does where an allocation fails, beside the contracts of Rattle's std.
 
 use fallible::alloc::Global;
 use fallible::{String, Unsigned as _, Vec};
@@ -13,21 +13,21 @@ thread_local! {
     static LEFT: Cell<usize> = const { Cell::new(usize::MAX) };
 }
 
-struct Refusing;
+struct Failing;
 
 #[global_allocator]
-static ALLOCATOR: Refusing = Refusing;
+static ALLOCATOR: Failing = Failing;
 
-fn is_refused() -> bool {
+fn fails_now() -> bool {
     let left = LEFT.get();
     LEFT.set(left.saturating_sub(usize::from(left != usize::MAX)));
     left == 0
 }
 
 // SAFETY: the system's, or null.
-unsafe impl GlobalAlloc for Refusing {
+unsafe impl GlobalAlloc for Failing {
     unsafe fn alloc(&self, layout: Layout) -> *mut u8 {
-        if is_refused() {
+        if fails_now() {
             ptr::null_mut()
         } else {
             unsafe { System.alloc(layout) }
@@ -35,7 +35,7 @@ unsafe impl GlobalAlloc for Refusing {
     }
 
     unsafe fn realloc(&self, at: *mut u8, layout: Layout, size: usize) -> *mut u8 {
-        if is_refused() {
+        if fails_now() {
             ptr::null_mut()
         } else {
             unsafe { System.realloc(at, layout, size) }
@@ -62,7 +62,7 @@ fn full(len: usize) -> Vec<usize> {
     list
 }
 
-/// The call fails where memory is refused, and leaves a list of `0..7` as it was; given it, it leaves these items.
+/// The call fails where an allocation does, and leaves a list of `0..7` as it was; given it, it leaves these items.
 fn fails_without_memory<E: Debug>(
     items: &[usize],
     mut call: impl FnMut(&mut Vec<usize>) -> Result<(), E>,
@@ -77,7 +77,7 @@ fn fails_without_memory<E: Debug>(
 }
 
 #[test]
-fn a_refused_growth_leaves_the_list_as_it_was() {
+fn a_failed_growth_leaves_the_list_as_it_was() {
     fails_without_memory(&[0, 1, 2, 3, 4, 5, 6, 9], |list| list.push(9));
     fails_without_memory(&[0, 1, 2, 9, 3, 4, 5, 6], |list| list.insert(3, 9));
     fails_without_memory(&[0, 1, 2, 3, 4, 5, 6], |list| list.reserve(1));
@@ -209,9 +209,9 @@ fn made_lists_hold_their_items_or_none_is_made() {
     assert!(given(0, || Vec::<u8>::with_capacity(Global, 0)).is_ok());
 }
 
-/// Each of its allocations can be refused, and the list stays. More than 20 items take one allocation more.
+/// Each of its allocations can fail, and the list stays. More than 20 items take one allocation more.
 #[test]
-fn a_refused_sort_leaves_the_list_as_it_was() {
+fn a_failed_sort_leaves_the_list_as_it_was() {
     for (len, allocations) in [(0, 0), (1, 0), (2, 2), (20, 2), (21, 3), (50, 3)] {
         let mut list = full(len);
         for few in 0..allocations {
@@ -241,7 +241,7 @@ fn bits_stay_in_an_unsigned_number() {
 }
 
 #[test]
-fn a_refused_growth_leaves_the_text_as_it_was() {
+fn a_failed_growth_leaves_the_text_as_it_was() {
     let mut text = String::from_str(Global, "contours").expect("memory");
     assert_eq!(text.capacity(), 8);
     assert!(given(0, || text.push('!')).is_err());

@@ -1,0 +1,253 @@
+//! All contacts and their kinds, beside a loop over pairs of edges, in fractions.
+
+use crate::shared::{
+    Number, Numbers, Place, SQUARE, Written, at_each_width, contour, point, shape, shapes,
+};
+use i_shape::flat::{Contours, OwnedContours, OwnedShapes, Shapes};
+use i_shape::int::IntPoint;
+use i_shape::int::contacts::ContactKind::{Crossing, Overlap, Touch};
+use i_shape::int::contacts::{Contact, ContactKind, ContourContacts};
+
+at_each_width!(
+    contours_by_hand,
+    contours_of_a_grid,
+    rings_of_a_grid,
+    polygons_of_a_grid,
+    more_contacts_than_points,
+    no_contacts
+);
+
+/// What two segments share: a point is its numerators and their denominator.
+#[derive(PartialEq)]
+enum Shared {
+    Nothing,
+    One([i64; 3]),
+    Many,
+}
+
+type Segment = [[i64; 2]; 2];
+
+fn cross([ax, ay]: [i64; 2], [bx, by]: [i64; 2]) -> i64 {
+    ax * by - ay * bx
+}
+
+fn way([ax, ay]: [i64; 2], [bx, by]: [i64; 2]) -> [i64; 2] {
+    [bx - ax, by - ay]
+}
+
+fn is_on([px, py]: [i64; 2], [a, b]: Segment) -> bool {
+    let is_between = |p: i64, a: i64, b: i64| a.min(b) <= p && p <= a.max(b);
+    cross(way(a, b), way(a, [px, py])) == 0
+        && is_between(px, a[0], b[0])
+        && is_between(py, a[1], b[1])
+}
+
+fn shared([a, b]: Segment, [c, e]: Segment) -> Shared {
+    let (one, other) = (way(a, b), way(c, e));
+    let divisor = cross(one, other);
+    if divisor == 0 {
+        let mut ends: Vec<_> = [a, b, c, e]
+            .into_iter()
+            .filter(|&end| is_on(end, [a, b]) && is_on(end, [c, e]))
+            .collect();
+        ends.sort();
+        ends.dedup();
+        return match ends[..] {
+            [] => Shared::Nothing,
+            [[x, y]] => Shared::One([x, y, 1]),
+            _ => Shared::Many,
+        };
+    }
+    let sign = divisor.signum();
+    let [along_one, along_other] = [other, one].map(|it| sign * cross(way(a, c), it));
+    let divisor = sign * divisor;
+    if along_one.min(along_other) < 0 || along_one.max(along_other) > divisor {
+        return Shared::Nothing;
+    }
+    let [x, y] = [0, 1].map(|axis| a[axis] * divisor + one[axis] * along_one);
+    Shared::One([x, y, divisor])
+}
+
+fn are_equal([x, y, divisor]: [i64; 3], [px, py]: [i64; 2]) -> bool {
+    (x, y) == (px * divisor, py * divisor)
+}
+
+/// Two edges in contact, and the kind of the contact.
+type Kind = ([usize; 2], ContactKind);
+
+/// The kind of the contact of two edges, by the place of the point from which each leads.
+fn kind(places: &[Place], first: usize, second: usize) -> Option<ContactKind> {
+    let edge = |k: usize| [places[k].at, places[places[k].next].at];
+    let ends = [edge(first), edge(second)];
+    let found = match shared(ends[0], ends[1]) {
+        Shared::Nothing => return None,
+        Shared::Many => return Some(Overlap),
+        Shared::One(found) => found,
+    };
+    let follows =
+        |k: usize, other: usize| places[k].next == other && are_equal(found, places[other].at);
+    if follows(first, second) || follows(second, first) {
+        return None;
+    }
+    let is_end = ends.concat().into_iter().any(|end| are_equal(found, end));
+    Some(if is_end { Touch } else { Crossing })
+}
+
+/// All contacts and their kinds.
+fn kinds(places: &[Place]) -> Vec<Kind> {
+    (0..places.len())
+        .flat_map(|first| (first + 1..places.len()).map(move |second| [first, second]))
+        .filter_map(|[first, second]| Some(([first, second], kind(places, first, second)?)))
+        .collect()
+}
+
+fn contact([first, second]: [usize; 2]) -> Contact {
+    Contact { first, second }
+}
+
+/// The same with so many points before these.
+fn behind(count: usize, kinds: &[Kind]) -> Vec<(Contact, ContactKind)> {
+    kinds
+        .iter()
+        .map(|&(pair, kind)| (contact(pair.map(|place| count + place)), kind))
+        .collect()
+}
+
+fn contours_by_hand<I: Number>() {
+    let rows: [(&Written, &[Kind]); 5] = [
+        (&SQUARE, &[]),
+        (&[[0, 0], [4, 4], [4, 0], [0, 4]], &[([0, 2], Crossing)]),
+        // a vertex on an edge, which the edges to it and from it touch
+        (
+            &[[0, 0], [4, 0], [4, 4], [2, 0], [0, 4]],
+            &[([0, 2], Touch), ([0, 3], Touch)],
+        ),
+        // a spike, and a repeated point: the edge before it and that after it touch
+        (
+            &[[0, 0], [4, 0], [4, 8], [4, 4], [0, 4]],
+            &[([1, 2], Overlap), ([1, 3], Touch)],
+        ),
+        (
+            &[[0, 0], [4, 0], [4, 0], [4, 4], [0, 4]],
+            &[([0, 2], Touch)],
+        ),
+    ];
+    for (written, wanted) in rows {
+        let given = contour::<I>(written);
+        let wanted = behind(0, wanted);
+        let contacts: Vec<_> = wanted.iter().map(|row| row.0).collect();
+        assert_eq!(given.contacts(), contacts, "{written:?}");
+        for (contact, kind) in wanted {
+            assert_eq!(given.kind_of_contact(contact), Some(kind), "{written:?}");
+        }
+    }
+}
+
+fn contours_of_a_grid<I: Number>() {
+    let mut numbers = Numbers::new(1);
+    let mut seen = Vec::new();
+    for _ in 0..200 {
+        let written = numbers.contour(8, 4);
+        let given = contour::<I>(&written);
+        let wanted = behind(0, &kinds(&Place::of(&[&written])));
+        let contacts: Vec<_> = wanted.iter().map(|row| row.0).collect();
+        assert_eq!(given.contacts(), contacts, "{written:?}");
+        assert_eq!(given.first_contact(), contacts.first().copied());
+        for first in 0..=given.len() {
+            for second in 0..=given.len() {
+                let pair = contact([first, second]);
+                let kind = wanted.iter().find(|row| row.0 == pair).map(|row| row.1);
+                assert_eq!(given.kind_of_contact(pair), kind, "{written:?} {pair:?}");
+                assert_eq!(given.try_kind_of_contact(pair), Ok(kind));
+            }
+        }
+        seen.extend(wanted.into_iter().map(|row| row.1));
+    }
+    for kind in [Crossing, Touch, Overlap] {
+        assert!(seen.contains(&kind), "{kind:?}");
+    }
+}
+
+fn rings_of_a_grid<I: Number>() {
+    let mut numbers = Numbers::new(2);
+    let outside = [IntPoint::new(I::ABOVE, I::ABOVE); 2];
+    for _ in 0..100 {
+        let written = numbers.contours(4, 5, 4);
+        let written: Vec<_> = written.iter().map(Vec::as_slice).collect();
+        let rings = OwnedContours::from_contours(&shape::<I>(&written));
+        let kinds = kinds(&Place::of(&written));
+        // at the front, and behind points that aren't read
+        let points = [&outside, rings.points(), &outside].concat();
+        let ends: Vec<_> = rings.offsets().iter().map(|offset| offset + 2).collect();
+        for (given, wanted) in [
+            (rings.as_contours(), behind(0, &kinds)),
+            (Contours::new(&points, &ends), behind(2, &kinds)),
+        ] {
+            let contacts: Vec<_> = wanted.iter().map(|row| row.0).collect();
+            assert_eq!(given.try_contacts(), Ok(contacts), "{written:?}");
+            for first in 0..=given.points().len() {
+                for second in 0..=given.points().len() {
+                    let pair = contact([first, second]);
+                    let kind = wanted.iter().find(|row| row.0 == pair).map(|row| row.1);
+                    assert_eq!(given.kind_of_contact(pair), kind, "{written:?} {pair:?}");
+                }
+            }
+        }
+    }
+}
+
+fn polygons_of_a_grid<I: Number>() {
+    let mut numbers = Numbers::new(3);
+    for _ in 0..40 {
+        let written: Vec<_> = (0..4).map(|_| numbers.contours(3, 5, 4)).collect();
+        let written: Vec<Vec<_>> = written
+            .iter()
+            .map(|shape| shape.iter().map(Vec::as_slice).collect())
+            .collect();
+        let written: Vec<_> = written.iter().map(Vec::as_slice).collect();
+        let flat = OwnedShapes::from_shapes(&shapes::<I>(&written));
+        let all = flat.as_shapes();
+        let wanted: Vec<Vec<_>> = written
+            .iter()
+            .zip(flat.shapes())
+            .map(|(rings, &ring)| behind(flat.contours()[ring], &kinds(&Place::of(rings))))
+            .collect();
+        let found = all.contacts();
+        assert_eq!(all.try_contacts(), Ok(found.clone()));
+        let rest = Shapes::new(flat.points(), flat.contours(), &flat.shapes()[1..]);
+        assert_eq!(rest.contacts(), found[1..]);
+        for (polygon, (found, wanted)) in all.iter().zip(found.into_iter().zip(wanted)) {
+            let kinds: Vec<_> = found
+                .into_iter()
+                .map(|it| {
+                    (
+                        it,
+                        polygon.kind_of_contact(it).expect("they are in contact"),
+                    )
+                })
+                .collect();
+            assert_eq!(kinds, wanted);
+        }
+    }
+}
+
+fn more_contacts_than_points<I: Number>() {
+    // each edge overlaps each other
+    let zigzag = [[0, 0], [4, 0]].map(point::<I>).repeat(5);
+    let contacts = zigzag.contacts();
+    assert_eq!(contacts.len(), 45);
+    let pairs = (0..10).flat_map(|first| (first + 1..10).map(move |second| [first, second]));
+    assert!(contacts.iter().copied().eq(pairs.map(contact)));
+}
+
+fn no_contacts<I: Number>() {
+    assert_eq!(contour::<I>(&[]).contacts(), []);
+    assert_eq!(contour::<I>(&[]).kind_of_contact(contact([0, 1])), None);
+    assert_eq!(OwnedContours::<I>::new().as_contours().contacts(), []);
+    assert_eq!(
+        OwnedShapes::<I>::new().as_shapes().contacts(),
+        [] as [Vec<_>; 0]
+    );
+    let greatest = contact([usize::MAX - 1, usize::MAX]);
+    assert_eq!(contour::<I>(&SQUARE).kind_of_contact(greatest), None);
+}
