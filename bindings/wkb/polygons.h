@@ -77,7 +77,7 @@ enum { FLOAT_SIZE = 32, FAULT_SIZE = 256, REASON_SIZE = 384 };
 
 /* A float in the fewest digits that lead back to it. */
 void put_float(double value, char text[FLOAT_SIZE]);
-/* Why what isn't fine is refused, where wanted names the type that isn't. */
+/* What is wrong, where wanted names the type that would be right. */
 void put_fault(const Fault *fault, const char *wanted, char text[FAULT_SIZE]);
 
 /* Whether step is finite and above 0. */

@@ -79,8 +79,8 @@ void put_fault(const Fault *fault, const char *wanted, char text[FAULT_SIZE]) {
     char value[FLOAT_SIZE];
     switch (fault->kind) {
     case FINE: *text = 0; return;
-    case OTHER_TYPE: snprintf(text, FAULT_SIZE, "a %s is needed, not a %s", wanted, name_of_type(fault->type)); return;
-    case HAS_Z_OR_M: snprintf(text, FAULT_SIZE, "the geometry has Z or M, and two coordinates a point are needed"); return;
+    case OTHER_TYPE: snprintf(text, FAULT_SIZE, "expected a %s, not a %s", wanted, name_of_type(fault->type)); return;
+    case HAS_Z_OR_M: snprintf(text, FAULT_SIZE, "expected two coordinates a point, and the geometry has Z or M"); return;
     case NOT_WKB: snprintf(text, FAULT_SIZE, "not a geometry: %s", fault->what); return;
     case MIXED_SRIDS: snprintf(text, FAULT_SIZE, "a part of a MultiPolygon has another SRID"); return;
     case OUT_OF_RANGE:

@@ -1,8 +1,8 @@
 /* COUNT mutated WKBs of random polygons, and a quarter as many as they are, through the reader, the cleaners, the order of forms and the writers, each block as
- * long as what it holds, for the address sanitizer. What is answered is compared with the calls of the C library on polygons, and with itself when it is read
- * again. Then each growth of the C library is refused in turn, and pauses are counted. usage: fuzz COUNT */
+ * long as what it holds, for the address sanitizer. What is returned is compared with the calls of the C library on polygons, and with itself when it is read
+ * again. Then each growth of the C library fails in turn, and pauses are counted. usage: fuzz COUNT */
 #include "tests/random_wkb.h"
-#include "tests/refusing.h"
+#include "tests/failing.h"
 
 /* ---- what is asked of each ---- */
 
@@ -171,8 +171,8 @@ static FaultKind check_bytes(void) {
     return kind;
 }
 
-/* Each growth of a cleaner over several polygons, refused, is told, and leaves no block. It answers how many there were. */
-static size_t check_refusals(Cleaner *cleaner) {
+/* Each growth of a cleaner over several polygons, failing, is reported, and leaves no block. It returns how many there were. */
+static size_t check_failed_growths(Cleaner *cleaner) {
     Block wkb = {bytes, 0};
     Geometry given, left;
     Grid grid;
@@ -180,16 +180,16 @@ static size_t check_refusals(Cleaner *cleaner) {
     do make_wkb();
     while (wkb.size = length, length < 1000 || read_block(wkb, grid, &given) != FINE);
     take_block(&left, given.counts);
-    growths = refused = 0;
+    growths = failing = 0;
     must(clean_polygons(cleaner, &given, no_pause, &left), "no memory");
     size_t all = growths;
     for (size_t k = 1; k <= all; k++) {
         growths = 0;
-        refused = k;
-        must(!clean_polygons(cleaner, &given, no_pause, &left), "a growth that is refused isn't told");
+        failing = k;
+        must(!clean_polygons(cleaner, &given, no_pause, &left), "a growth that fails is not reported");
         must(blocks == 0, "a block is left");
     }
-    refused = 0;
+    failing = 0;
     free(given.points);
     free(left.points);
     return all;
@@ -261,11 +261,11 @@ int main(int count, char **words) {
     Cleaner *const cleaners[] = {i_shape_simplify_i64, i_shape_despike_i64, i_shape_canonical_i64, i_shape_canonical_unoriented_i64};
     for (int k = 0; k < 4; k++) {
         size_t all = 0;
-        for (int times = 0; times < 20; times++) all += check_refusals(cleaners[k]);
+        for (int times = 0; times < 20; times++) all += check_failed_growths(cleaners[k]);
         must(all > 20, "it takes no memory");
     }
     check_pauses();
-    printf("%ld of %ld answered; refused: type %ld, dimensions %ld, bytes %ld, SRIDs %ld, range %ld\n", kinds[FINE], rounds, kinds[OTHER_TYPE],
+    printf("%ld of %ld read; faults: type %ld, dimensions %ld, bytes %ld, SRIDs %ld, range %ld\n", kinds[FINE], rounds, kinds[OTHER_TYPE],
            kinds[HAS_Z_OR_M], kinds[NOT_WKB], kinds[MIXED_SRIDS], kinds[OUT_OF_RANGE]);
     return 0;
 }

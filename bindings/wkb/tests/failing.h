@@ -1,13 +1,13 @@
-/* In place of the C library's allocator: the growth whose number is refused, none at 0, is refused, and blocks that are held are counted. One file of a program
+/* In place of the C library's allocator: the growth whose number is failing, none at 0, fails, and blocks that are held are counted. One file of a program
  * includes it. */
 #include "../../c/allocator.h"
 
 #include <stdlib.h>
 
-static size_t growths, refused, blocks;
+static size_t growths, failing, blocks;
 
 static struct tried grown(void *old, size_t size) {
-    void *at = ++growths == refused ? NULL : realloc(old, size ? size : 1);
+    void *at = ++growths == failing ? NULL : realloc(old, size ? size : 1);
     blocks += at && !old;
     return tried(at);
 }
