@@ -1,6 +1,6 @@
 """Runs the tests, and ends in a line 'N passed, M failed'.
 
-Behind it stands ', K skipped' where some are skipped. A word names another
+It ends in ', K skipped' where some are skipped. A word names another
 folder of tests than that of this file."""
 
 import sys

@@ -1,4 +1,4 @@
-"""Layouts and dtypes of arrays: read as they are, copied, or refused."""
+"""Layouts and dtypes of arrays: read as they are, copied, or errors."""
 
 import ctypes
 import random
@@ -186,7 +186,7 @@ class Layouts(unittest.TestCase):
 
 class OtherArrays(unittest.TestCase):
 
-    def test_other_dtypes_are_refused(self):
+    def test_other_dtypes_are_errors(self):
         points = plain.array(RING, np.int32)
         others = [points.astype(name) for name in (
             "int8", "uint8", "uint16", "uint32", "uint64", "float16",
@@ -216,7 +216,7 @@ class OtherArrays(unittest.TestCase):
         self.assertEqual((left.points.shape, left.points.dtype),
                          ((0, 2), np.int64))
 
-    def test_other_shapes_are_refused(self):
+    def test_other_shapes_are_errors(self):
         for shape in ((), (4,), (0,), (4, 1), (4, 3), (4, 0), (0, 3),
                       (2, 2, 2), (1, 4, 2), (0, 2, 2)):
             points = np.zeros(shape, np.int32)

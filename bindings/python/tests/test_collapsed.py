@@ -1,4 +1,4 @@
-"""Features of which nothing is left: refused, made empty, or dropped."""
+"""Features of which nothing is left: an error, made empty, or dropped."""
 
 import contextlib
 import json
@@ -17,9 +17,9 @@ from test_geopackage import GeoPackageCase, blob
 CALLS = ("simplify", "despike", "canonical")
 THIN = [(0.5, 0.01), (0.9, 0.02), (0.9, 0.03)]  # of no steps of 0.1
 RINGS = [SQUARE, FLAT, SPIKED, THIN]
-REFUSED = ("nothing is left of it, nor of 1 other of 4 {}; is the step in the"
+MESSAGE = ("nothing is left of it, nor of 1 other of 4 {}; is the step in the"
            " unit of the coordinates? To allow this, use {}")
-COMMAND = REFUSED.format("features", "--collapsed empty or --collapsed drop")
+COMMAND = MESSAGE.format("features", "--collapsed empty or --collapsed drop")
 LAST = "i_shape: {} of 4 features changed, 2 collapsed\n"
 CHANGED = {"simplify": 3, "despike": 3, "canonical": 4}
 
@@ -50,7 +50,7 @@ class OfTexts(CommandCase):
                 "type": "FeatureCollection",
                 "features": list(map(json.loads, text.splitlines()))})
 
-    def test_they_are_refused_before_the_file_is_touched(self):
+    def test_they_are_errors_before_the_file_is_touched(self):
         for call in CALLS:
             for path, name in self.files():
                 for largest in (1, 1 << 22):
@@ -117,7 +117,7 @@ class OfTexts(CommandCase):
 
 class OfGeoPackages(GeoPackageCase):
 
-    def test_they_are_refused_emptied_or_dropped(self):
+    def test_they_are_errors_emptied_or_dropped(self):
         self.fill(*map(blob, io.to_wkb(features())))
         before = self.given.read_bytes()
         for call in CALLS:
@@ -146,7 +146,7 @@ class OfFeatures(unittest.TestCase):
                 self.assertEqual(told.exception.feature, 1)
                 self.assertEqual(
                     str(told.exception), "feature 1: "
-                    + REFUSED.format("features", "collapsed='empty'"))
+                    + MESSAGE.format("features", "collapsed='empty'"))
             left = call(whole, collapsed="empty", threads=2)
             self.assertEqual(np.diff(left.feature_offsets).tolist(),
                              [1, 0, 1, 0])
@@ -182,7 +182,7 @@ class OfGeoSeries(unittest.TestCase):
             self.assertEqual(told.exception.feature, 2)
             self.assertEqual(
                 str(told.exception), "feature 2: "
-                + REFUSED.format("polygons", "collapsed='empty'"))
+                + MESSAGE.format("polygons", "collapsed='empty'"))
             with self.assertRaisesRegex(ValueError, "collapsed is 'drop'"):
                 call(given, 0.1, collapsed="drop")
             left = call(given, 0.1, collapsed="empty")

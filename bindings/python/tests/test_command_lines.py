@@ -109,10 +109,10 @@ class Lines(CommandCase):
                 (right + "\n{", "line 3: Expecting property name enclosed in"
                  " double quotes: column 2"),
                 (right + right.strip() + "x", "line 2: Extra data: column"),
-                (right + "[1]", "line 2: feature 1: a Feature is needed"),
+                (right + "[1]", "line 2: feature 1: expected a Feature"),
                 ("[" * 10 ** 5, "line 1: it is nested too deeply"),
                 ("\n" + right + FEATURE % json.dumps(POINT),
-                 "line 3: feature 1: a Polygon or a MultiPolygon is needed,"
+                 "line 3: feature 1: expected a Polygon or a MultiPolygon,"
                  " not 'Point'"),
                 (FEATURE % '{"type": "Polygon", "coordinates": [[[0, NaN]]]}',
                  "line 1: NaN isn't a number of JSON: column")):
@@ -207,7 +207,7 @@ class Others(CommandCase):
                     f"{json.dumps(one)}\n" for one in document["features"]),
                 name)
             words = ("simplify", given, out, "--step", "0.1")
-            self.assertIn("feature 1: a Polygon or a MultiPolygon is needed,"
+            self.assertIn("feature 1: expected a Polygon or a MultiPolygon,"
                           " not 'Point'", self.run_command(
                               *words, status=1)[1])
             square = samples.polygon(SQUARE)
@@ -236,7 +236,7 @@ class Others(CommandCase):
         given = self.write("\n".join([square, *others, square]), "a.wkt")
         out = self.folder / "out.wkt"
         words = ("despike", given, out, "--step", "1")
-        self.assertIn("line 2: feature 1: POLYGON or",
+        self.assertIn("line 2: feature 1: expected POLYGON or",
                       self.run_command(*words, status=1)[1])
         self.run_command(*words, "--others", "keep")
         self.assertEqual(out.read_text().splitlines(),
@@ -246,7 +246,7 @@ class Others(CommandCase):
         self.assertEqual(self.geometries(),
                          [samples.polygon(samples.SQUARE)] * 2)
 
-    def test_faults_are_refused_whatever_becomes_of_others(self):
+    def test_faults_are_errors_whatever_becomes_of_others(self):
         for geometry in ({"type": "Polygon", "coordinates": [[[0, "1"]]]},
                          {"type": "Curve"}, 7,
                          {"type": "Polygon", "coordinates": [[[0]]]}):

@@ -207,7 +207,7 @@ class Plots(CommandCase):
                              9 if most == 10 else 0)
 
     def texts(self, name):
-        """The words of a picture, which stand in its comments."""
+        """The words of a picture, which are in its comments."""
         return re.findall("<!-- (.*) -->", (self.folder / name).read_text())
 
     def test_without_matplotlib_nothing_is_done(self):

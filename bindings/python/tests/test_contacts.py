@@ -61,7 +61,7 @@ class Answers(unittest.TestCase):
 
 class Errors(unittest.TestCase):
 
-    def test_what_is_refused(self):
+    def test_errors(self):
         points = np.array([(0, 0), (2**30, 0), (4, 4), (0, 4)], np.int32)
         with self.assertRaises(i_shape.UnsafePointError) as told:
             i_shape.first_contact(points)

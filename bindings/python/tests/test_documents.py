@@ -11,12 +11,13 @@ import i_shape
 from i_shape import (_contacts, _contours, _keys, _measures, _polygons,
                      _rings, _windings, io)
 from i_shape.io import (_cleaners, _closing, _conditions, _features,
-                        _geojson, _geoseries, _grid, _shapely, _validity,
-                        _wkb, _wkt)
+                        _geojson, _geoseries, _grid, _locating, _shapely,
+                        _validity, _wkb, _wkt)
 
 TOP = Path(__file__).resolve().parents[3]
 PAGE = TOP / "docs" / "PYTHON.md"
 VALIDITY = TOP / "docs" / "VALIDITY.md"
+FAQ = TOP / "docs" / "FAQ.md"
 README = TOP / "README.md"
 
 
@@ -29,7 +30,8 @@ class Documents(unittest.TestCase):
             self.assertEqual(faults, 0)
             self.assertGreater(count, 10)
         for module in (_cleaners, _closing, _conditions, _features, _geojson,
-                       _geoseries, _grid, _shapely, _validity, _wkb, _wkt):
+                       _geoseries, _grid, _locating, _shapely, _validity,
+                       _wkb, _wkt):
             faults, count = doctest.testmod(module)
             self.assertEqual(faults, 0)
             self.assertGreater(count, 1)
@@ -59,7 +61,8 @@ class Documents(unittest.TestCase):
                             (name, its.name))
 
     def test_the_examples_of_the_pages(self):
-        for path, fewest in ((PAGE, 9), (README, 5), (VALIDITY, 5)):
+        for path, fewest in ((PAGE, 9), (README, 5), (VALIDITY, 5),
+                             (FAQ, 3)):
             # A fence would be read as a line of the output before it.
             text = re.sub("^```.*$", "", path.read_text(), flags=re.MULTILINE)
             page = doctest.DocTestParser().get_doctest(

@@ -123,7 +123,7 @@ class Store(ExampleCase):
         with self.assertRaises(ValueError):
             self.opened(step=0.5)
 
-    def test_other_formats_are_refused_in_a_sentence(self):
+    def test_other_formats_are_errors_in_a_sentence(self):
         folder = Path(self.path).parent
         package, text = folder / "x.gpkg", folder / "x.wkt"
         package.write_bytes(b"SQLite format 3\0\x10\0\xff\xfe")

@@ -252,9 +252,9 @@ gone: layer 'parcels', fid 13, equal to layer 'parcels', fid 3
         self.assertEqual([*self.geometries()], [3, 5, 11])
 
 
-class Refused(GeoPackageCase):
+class Errors(GeoPackageCase):
 
-    def assert_refused(self, *words, told, call="simplify"):
+    def assert_error(self, *words, told, call="simplify"):
         """It fails and says this, and each file stays as it was.
 
         OUT is new, is there, or is IN.
@@ -290,46 +290,46 @@ class Refused(GeoPackageCase):
             self.change("DROP TRIGGER IF EXISTS rtree_parcels_update1")
             self.change("UPDATE parcels SET geom = ? WHERE fid = 5", one)
             with self.subTest(told=told):
-                self.assert_refused(told=told)
-                self.assert_refused(told="layer 'parcels', fid 5")
+                self.assert_error(told=told)
+                self.assert_error(told="layer 'parcels', fid 5")
 
     def test_files_that_are_no_geopackages(self):
         for text, told in ((b"", "it is no GeoPackage"), (b"x" * 9999, "not"),
                            (b"SQLite format 3\0" + b"x" * 9999, "")):
             self.given.write_bytes(text)
-            self.assert_refused(told=told or str(self.given))
+            self.assert_error(told=told or str(self.given))
         self.given.unlink()
-        self.assert_refused(told="[Errno 2]")
+        self.assert_error(told="[Errno 2]")
         self.fill(*[SQUARE_BLOB] * 2000)
         self.given.write_bytes(self.given.read_bytes()[:99_000])
-        self.assert_refused(told=f"i_shape: {self.given}: ")
+        self.assert_error(told=f"i_shape: {self.given}: ")
 
     def test_layers_that_can_not_be_written(self):
         self.fill(SQUARE_BLOB)
-        self.assert_refused("--layer", "none", told="there is no layer 'none'"
+        self.assert_error("--layer", "none", told="there is no layer 'none'"
                             ": those there are 'parcels'")
         self.change("CREATE VIEW seen AS SELECT * FROM parcels")
         self.change("INSERT INTO gpkg_geometry_columns VALUES"
                     " ('seen', 'geom', 'POLYGON', 4326)")
-        self.assert_refused(told="layer 'seen' is a view")
+        self.assert_error(told="layer 'seen' is a view")
         self.change("UPDATE gpkg_geometry_columns SET table_name = 'gone'"
                     " WHERE table_name = 'seen'")
-        self.assert_refused(told="layer 'gone' is no table")
+        self.assert_error(told="layer 'gone' is no table")
         self.change("UPDATE gpkg_geometry_columns SET srs_id = NULL"
                     " WHERE table_name = 'gone'")
-        self.assert_refused(told="layer 'gone' has column 'geom' and SRS None")
+        self.assert_error(told="layer 'gone' has column 'geom' and SRS None")
         self.change("DELETE FROM gpkg_geometry_columns"
                     " WHERE table_name = 'gone'")
         self.change("CREATE TABLE keyless (geom)")
         self.change("INSERT INTO gpkg_geometry_columns VALUES"
                     " ('keyless', 'geom', 'POLYGON', 4326)")
-        self.assert_refused(told="layer 'keyless' has no integer primary key")
+        self.assert_error(told="layer 'keyless' has no integer primary key")
 
     def test_a_trigger_of_strange_functions(self):
         self.fill(SPIKED_BLOB)
         self.change("CREATE TRIGGER other AFTER UPDATE ON parcels BEGIN"
                     " SELECT strange(NEW.geom); END")
-        self.assert_refused(told=f"i_shape: {self.out}: layer 'parcels': no"
+        self.assert_error(told=f"i_shape: {self.out}: layer 'parcels': no"
                             " such function: strange")
 
     def test_a_trigger_that_undoes_or_changes_what_was_written(self):
@@ -345,7 +345,7 @@ class Refused(GeoPackageCase):
                  " VALUES (OLD.fid, OLD.name, NULL)")):
             self.change(f"CREATE TRIGGER other {when} ON parcels"
                         f" WHEN OLD.fid = 5 BEGIN {then}; END")
-            self.assert_refused(call=call, told=f"{self.out}: layer 'parcels',"
+            self.assert_error(call=call, told=f"{self.out}: layer 'parcels',"
                                 " fid 5: a trigger undid or changed what was"
                                 " written\n")
             self.change("DROP TRIGGER other")
@@ -356,7 +356,7 @@ class Refused(GeoPackageCase):
                       "fid INTEGER PRIMARY KEY DESC, name TEXT, geom BLOB)",
                       "INSERT INTO parcels VALUES (NULL, '', NULL)"):
             self.change(words)
-        self.assert_refused(told="layer 'parcels' has a feature without a key")
+        self.assert_error(told="layer 'parcels' has a feature without a key")
 
     def test_a_file_by_another_name(self):
         self.fill(SPIKED_BLOB)

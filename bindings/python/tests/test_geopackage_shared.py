@@ -252,12 +252,12 @@ class Shared(SharedCase):
                         self.assertEqual(self.dump_of(moved), dumps[1])
                     self.assertEqual(sorted(self.folder.glob(".*")), [])
                     if out == self.out:
-                        is_refused = mode == "wal" and not out.exists()
-                        again = self.run_clean(out=out, status=is_refused)[1]
+                        is_error = mode == "wal" and not out.exists()
+                        again = self.run_clean(out=out, status=is_error)[1]
                         self.assertEqual("-wal beside it says that another"
-                                         in again, is_refused)
+                                         in again, is_error)
                         self.assertEqual(
-                            any(self.folder.glob("*.gpkg-*")), is_refused)
+                            any(self.folder.glob("*.gpkg-*")), is_error)
 
     def test_in_place_is_as_the_copy(self):
         self.fill(SQUARE_BLOB, POINT, FLAT_BLOB, SPIKED_BLOB, HIGH_BLOB,

@@ -75,7 +75,7 @@ class GeoSeries(unittest.TestCase):
         with self.assertRaisesRegex(ValueError, "others is 'drop'"):
             io.simplify_geoseries(self.series(), 0.1, others="drop")
 
-    def test_what_is_no_geoseries_is_refused(self):
+    def test_what_is_no_geoseries_is_an_error(self):
         series = self.series()
         for given, name in ((geopandas.GeoDataFrame(geometry=series),
                              "GeoDataFrame"), (series.array, "GeometryArray"),

@@ -1,4 +1,4 @@
-"""Features through GeoJSON and WKT, and what is refused of them."""
+"""Features through GeoJSON and WKT, and their errors."""
 
 import json
 import pickle
@@ -131,18 +131,18 @@ class GeoJSON(FormatCase):
     def test_a_document_that_no_features_are_read_from(self):
         one = io.from_wkt(["POLYGON EMPTY"])
         for document, words in (
-                ([], "an object of GeoJSON is needed, not []"),
-                ("text", "an object of GeoJSON is needed, not 'text'"),
-                ({}, "a Polygon or a MultiPolygon is needed, not {}"),
+                ([], "expected an object of GeoJSON, not []"),
+                ("text", "expected an object of GeoJSON, not 'text'"),
+                ({}, "expected a Polygon or a MultiPolygon, not {}"),
                 ({"type": "Point", "coordinates": [0, 0]}, "'Point'"),
-                ({"type": "Feature", "geometry": 5}, "needed, not 5"),
+                ({"type": "Feature", "geometry": 5}, "a MultiPolygon, not 5"),
                 ({"type": "FeatureCollection"}, "features are None"),
-                (samples.geojson([1]), "needed, not [1]"),
+                (samples.geojson([1]), "Polygon or a MultiPolygon, not [1]"),
                 (samples.geojson({"type": "LineString"}), "'LineString'")):
             self.assert_fails(lambda given: io.to_geojson(one, given),
                               document, words, 0)
 
-    def test_what_is_refused_names_its_place(self):
+    def test_errors_name_the_place(self):
         square = samples.polygon(samples.SQUARE)
 
         def coordinates(kind, value):
@@ -156,31 +156,31 @@ class GeoJSON(FormatCase):
                 ({"type": "Point", "coordinates": [0, 0]}, "'Point'", 0),
                 ({"type": "FeatureCollection"}, "features are None", 0),
                 ({"type": "FeatureCollection", "features": {}},
-                 "a list is needed", 0),
+                 "not a list", 0),
                 ({"type": "FeatureCollection", "features": [
                     {"type": "Feature", "geometry": None}, square]},
-                 "a Feature is needed", 1),
+                 "expected a Feature", 1),
                 (samples.geojson(square, {"type": "LineString"}),
                  "'LineString'", 1),
                 (samples.geojson(square, {"type": ["Polygon"]}),
                  "['Polygon']", 1),
-                (samples.geojson(square, 5), "needed, not 5", 1),
+                (samples.geojson(square, 5), "a MultiPolygon, not 5", 1),
                 (coordinates("GeometryCollection", []),
                  "'GeometryCollection'", 2),
                 (coordinates("Polygon", None), "coordinates are None", 2),
                 (coordinates("Polygon", "text"), "coordinates are 'text'", 2),
                 (coordinates("MultiPolygon", [[], 5]),
-                 "a list of rings is needed, not 5", 2, 1),
+                 "expected a list of rings, not 5", 2, 1),
                 (coordinates("Polygon", [7]),
-                 "a list of positions is needed, not 7", 2, 0, 0),
+                 "expected a list of positions, not 7", 2, 0, 0),
                 (coordinates("Polygon", [[[0, 0]], "ab"]),
-                 "a list of positions is needed, not 'ab'", 2, 0, 1),
+                 "expected a list of positions, not 'ab'", 2, 0, 1),
                 (coordinates("Polygon", [{}]),
-                 "a list of positions is needed, not {}", 2, 0, 0),
+                 "expected a list of positions, not {}", 2, 0, 0),
                 (coordinates("Polygon", [[[0, 0]], ""]),
-                 "a list of positions is needed, not ''", 2, 0, 1),
+                 "expected a list of positions, not ''", 2, 0, 1),
                 (coordinates("Polygon", [{"ab": 1}]),
-                 "a list of positions is needed", 2, 0, 0),
+                 "expected a list of positions", 2, 0, 0),
                 (coordinates("Polygon", [[[0, 0], 3]]),
                  "the position 3 has no coordinates", 2, 0, 0, 1),
                 (coordinates("Polygon", [[[0, 0], "ab"]]),
@@ -194,9 +194,9 @@ class GeoJSON(FormatCase):
                 (coordinates("Polygon", [[[0, 0], range(2)]]),
                  "the position range(0, 2) has no", 2, 0, 0, 1),
                 (coordinates("Polygon", [[[0, 0], [1, 1, 1]]]),
-                 "has 3 coordinates: 2 are needed", 2, 0, 0, 1),
+                 "has 3 coordinates, not 2", 2, 0, 0, 1),
                 (coordinates("Polygon", [[[0, 0]], [[1, 1], []]]),
-                 "has 0 coordinates: 2 are needed", 2, 0, 1, 1),
+                 "has 0 coordinates, not 2", 2, 0, 1, 1),
                 (coordinates("MultiPolygon", [[], [[[0, 0]], [[0, "1"]]]]),
                  "'1' isn't a number", 2, 1, 1, 0),
                 (coordinates("Polygon", [[[0, 0], [0, True]]]),
@@ -211,7 +211,7 @@ class GeoJSON(FormatCase):
                  "<a number of thousands of digits> has no room in a float64",
                  2, 0, 0, 1),
                 (coordinates("Polygon", [[[0, 0], [10 ** 5000]]]),
-                 "has 1 coordinates: 2 are needed", 2, 0, 0, 1),
+                 "has 1 coordinates, not 2", 2, 0, 0, 1),
                 (coordinates("Polygon", [[[0, 0], [0, float("nan")]]]),
                  "(0.0, nan), and not finite", 2, 0, 0, 1),
                 (coordinates("MultiPolygon", [[[[0, 1], [2, 3]]], [
@@ -257,25 +257,25 @@ class WKT(FormatCase):
             with self.subTest(text=text):
                 self.assertEqual(samples.lists(io.from_wkt([text])), [right])
 
-    def test_what_is_refused_names_its_place(self):
+    def test_errors_name_the_place(self):
         square = "POLYGON ((0 0, 4 0, 4 4, 0 4, 0 0))"
         for text, words, *place in (
-                ("", "POLYGON or MULTIPOLYGON is needed, not ''"),
+                ("", "expected POLYGON or MULTIPOLYGON, not ''"),
                 ("POINT (0 0)", "not 'POINT (0 0)'"),
                 ("POLYGONS ((0 0))", "not 'POLYGONS ((0 0))'"),
                 ("SRID=4326;POLYGON ((0 0))", "POLYGON or MULTIPOLYGON"),
-                (None, "a text is needed, not None"),
-                ("POLYGON", "'(' is needed at character 7, not the end"),
+                (None, "expected a text, not None"),
+                ("POLYGON", "expected '(' at character 7, not the end"),
                 ("POLYGON Z ((0 0 0))", "it has more"),
                 ("POLYGON M ((0 0 0))", "it has more"),
                 ("MULTIPOLYGON ZM EMPTY", "it has more"),
-                ("POLYGON (0 0, 4 0)", "'(' is needed at character 9"),
-                ("POLYGON ((0 0, 4 0)", "')' is needed at character 19"),
-                ("POLYGON ((0 0, 4 0", "')' is needed at character 18"),
+                ("POLYGON (0 0, 4 0)", "expected '(' at character 9"),
+                ("POLYGON ((0 0, 4 0)", "expected ')' at character 19"),
+                ("POLYGON ((0 0, 4 0", "expected ')' at character 18"),
                 ("POLYGON ((0 0, (4 0", "has 0 coordinates", 0, 0, 1),
-                ("POLYGON ((0 0)) x", "the end is needed at character 16"),
-                ("POLYGON EMPTY ((0 0))", "the end is needed"),
-                ("POLYGON ((0 0),)", "'(' is needed at character 15"),
+                ("POLYGON ((0 0)) x", "expected the end at character 16"),
+                ("POLYGON EMPTY ((0 0))", "expected the end"),
+                ("POLYGON ((0 0),)", "expected '(' at character 15"),
                 ("POLYGON ((0 0, 4))", "has 1 coordinates", 0, 0, 1),
                 ("POLYGON ((0 0, 4 5 6))", "has 3 coordinates", 0, 0, 1),
                 ("POLYGON ((0 0, ))", "has 0 coordinates", 0, 0, 1),

@@ -1,8 +1,11 @@
 """Floats onto a grid and back; rings opened and closed; narrow offsets."""
 
 import random
+import subprocess
+import sys
 import unittest
 from fractions import Fraction
+from pathlib import Path
 
 import numpy as np
 
@@ -16,6 +19,38 @@ def nearest(number, grid, axis):
     """The number of steps by fractions, halves to the even one."""
     origin, step = Fraction(grid.origin[axis]), Fraction(grid.step)
     return round((Fraction(number) - origin) / step)
+
+
+class Table(unittest.TestCase):
+    """The rows of bindings/grid.txt, which each language is tested with."""
+
+    path = Path(__file__).resolve().parents[2] / "grid.txt"
+
+    def test_each_row(self):
+        rows = [line.split("\t") for line in self.path.read_text().splitlines()
+                if not line.startswith("#")]
+        self.assertGreater(len(rows), 500)
+        for step, x, k, back, width, _ in rows:
+            grid, point = io.Grid(float(step)), [(float(x), float(x))]
+            for dtype in plain.DTYPES:
+                with self.subTest(step=step, x=x, dtype=dtype):
+                    if (width == "-"
+                            or int(width) > 8 * np.dtype(dtype).itemsize):
+                        with self.assertRaises(i_shape.UnsafePointError):
+                            io.to_grid(point, grid, dtype)
+                        continue
+                    whole = io.to_grid(point, grid, dtype)
+                    self.assertEqual(whole.tolist(), [[int(k)] * 2])
+                    if back == "-":
+                        continue
+                    there = io.from_grid(whole, grid).ravel().tolist()
+                    self.assertEqual(list(map(repr, there)), [back] * 2)
+
+    def test_the_rows_are_those_of_the_definition(self):
+        script = self.path.parents[1] / "scripts" / "grid_vectors.py"
+        made = subprocess.run([sys.executable, str(script)], check=True,
+                              capture_output=True, text=True)
+        self.assertEqual(made.stdout, self.path.read_text())
 
 
 class Grids(unittest.TestCase):
@@ -119,7 +154,7 @@ class Grids(unittest.TestCase):
                     with self.assertRaises(i_shape.UnsafePointError):
                         io.to_grid([point], io.Grid(1), dtype)
 
-    def test_what_is_refused_is_named(self):
+    def test_errors_name_the_point(self):
         inf, nan = float("inf"), float("nan")
         for point, grid, dtype, words in (
                 ((0, 181.5), io.Grid(1e-7), np.int32,
@@ -256,7 +291,7 @@ class Closing(unittest.TestCase):
         np.testing.assert_array_equal(opened.points, points)
         np.testing.assert_array_equal(opened.offsets, offsets)
 
-    def test_what_is_refused(self):
+    def test_errors(self):
         for call in (io.open_rings, io.close_rings):
             for offsets in ([0, 5], [3, 1], [-1, 4], []):
                 with self.assertRaises(i_shape.OffsetsError):
@@ -374,7 +409,7 @@ class Cleaners(unittest.TestCase):
             call(features)
             self.assertEqual(samples.lists(features), before)
 
-    def test_floats_are_refused(self):
+    def test_floats_are_errors(self):
         features = samples.arrays([(False, [[samples.SQUARE]])])
         for call in (io.simplify_features, io.despike_features,
                      io.canonical_features):

@@ -64,7 +64,7 @@ class Explained(unittest.TestCase):
                          "polygon 0, ring 0: edge 1 from (4, 0) meets edge 3"
                          " from (4, 4.1)")
 
-    def test_what_is_refused(self):
+    def test_errors(self):
         with self.assertRaises(io.FeatureError) as told:
             io.explain_validity(GIVEN, 1e-30)
         self.assertEqual(told.exception.feature, 0)
@@ -157,7 +157,7 @@ class Checked(CommandCase):
                 self.assertEqual(written["crs"], crs)
                 self.assertEqual(len(written["features"]), 2 * len(crossed))
 
-    def test_others_are_left_out_or_refused(self):
+    def test_others_are_left_out_or_errors(self):
         self.write(samples.geojson({"type": "Point", "coordinates": [0, 0]},
                                    samples.polygon(samples.SQUARE)))
         for others in ("keep", "drop"):
@@ -166,10 +166,10 @@ class Checked(CommandCase):
             self.assertEqual(told[1], "i_shape: 0 of 1 features invalid\n")
         told = self.run_command("check", self.given, "--step", "1", "--to",
                                 self.out, status=1)
-        self.assertIn("feature 0: a Polygon or", told[1])
+        self.assertIn("feature 0: expected a Polygon or", told[1])
         self.assertFalse(self.out.exists())
 
-    def test_words_that_are_refused(self):
+    def test_words_that_are_errors(self):
         self.write(samples.geojson())
         step = ["--step", "1"]
         for words, told in (

@@ -1,4 +1,4 @@
-"""Features through WKB, beside a plain writer of it, and what is refused."""
+"""Features through WKB, beside a plain writer of it, and its errors."""
 
 import random
 import struct
@@ -61,15 +61,15 @@ class Wkb(FormatCase):
     def test_none_has_no_polygons(self):
         self.assertEqual(samples.lists(io.from_wkb([None])), [(True, [])])
 
-    def test_what_is_refused_names_its_place(self):
+    def test_errors_name_the_place(self):
         right = plain(False, [[SQUARE]])
         multi = plain(True, [[SQUARE]] * 2)
         second = 9 + len(right)
         flat = struct.pack("<BIIIdd", 1, 3, 1, 1, 0, float("inf"))
         for blob, words, *place in (
-                (b"", "1 bytes are needed at byte 0, and there are 0"),
+                (b"", "expected 1 bytes at byte 0, and there are 0"),
                 (b"\2" + right[1:], "byte 0 is 2: a byte order"),
-                (right[:3], "4 bytes are needed at byte 1, and there are 2"),
+                (right[:3], "expected 4 bytes at byte 1, and there are 2"),
                 (right[:20], "5 points need 80 bytes at byte 13, and there"
                  " are 7", 0, 0),
                 (right + b"\0", "it ends at byte 93, and there are 94"),
@@ -77,17 +77,17 @@ class Wkb(FormatCase):
                  f"byte {second} is 7"),
                 (multi[:second] + right.replace(b"\3", b"\1", 1),
                  "has the type 0x1", 1),
-                (struct.pack("<BII", 1, 3, 2 ** 32 - 1), "4 bytes are needed"),
+                (struct.pack("<BII", 1, 3, 2 ** 32 - 1), "expected 4 bytes"),
                 (struct.pack("<BI", 1, 1), "not a Point"),
                 (struct.pack(">BI", 0, 10), "not a CurvePolygon"),
                 (struct.pack("<BI", 1, 1003), "it has more"),
                 (struct.pack("<BI", 1, 0x80000006), "it has more"),
                 (struct.pack("<BI", 1, 99), "0x63 isn't a type"),
                 (struct.pack("<BI", 1, 4003), "0xfa3 isn't a type"),
-                (flat, "not finite", 0, 0, 0), ("00", "bytes are needed")):
+                (flat, "not finite", 0, 0, 0), ("00", "expected bytes")):
             self.assert_fails(io.from_wkb, [right, blob], words, 1, *place)
 
-    def test_each_part_of_a_geometry_is_refused(self):
+    def test_each_part_of_a_geometry_is_an_error(self):
         for blob in (plain(True, [[SQUARE], [SQUARE] * 2], ">"),
                      plain(False, [[SQUARE]], srid=1)):
             for end in range(len(blob)):

@@ -90,7 +90,7 @@ class OfRings(unittest.TestCase):
         # All of their numbers at 64 bits, twice, would be 19 MB more.
         self.assertLess(peak - held, 2 * 10**7)
 
-    def test_what_is_refused(self):
+    def test_errors(self):
         given = plain.flat(RINGS, np.int16)
         for ends in ([], [[0, 7]]):
             with self.assertRaisesRegex(ValueError, "threads is 0"):

@@ -1,4 +1,4 @@
-"""Memory: none is lost over many calls, and a refusal is told."""
+"""Memory: none is lost over many calls, and where none is left calls fail."""
 
 import os
 import resource
@@ -92,14 +92,14 @@ class Leaks(unittest.TestCase):
                 except ValueError:
                     pass
                 else:
-                    self.fail("it answers")
+                    self.fail("it returns")
 
         self.assert_no_leak(fails, CALLS // 2)
 
 
-class Refusals(unittest.TestCase):
+class FailedAllocations(unittest.TestCase):
 
-    def test_refused_memory_is_told(self):
+    def test_a_failed_allocation_is_an_error(self):
         # The room for the answer is there, that of the library isn't.
         program = textwrap.dedent("""
             import resource

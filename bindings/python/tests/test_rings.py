@@ -216,11 +216,11 @@ class Errors(unittest.TestCase):
         return told.exception
 
     def test_a_thread_that_cannot_start_is_want_of_memory(self):
-        def refuse(*_):
+        def fail(*_):
             raise RuntimeError("can't start new thread")
 
         points, offsets = plain.flat([[(0, 0), (4, 0), (4, 4)]] * 9, np.int32)
-        with mock.patch.object(_library.ThreadPoolExecutor, "map", refuse):
+        with mock.patch.object(_library.ThreadPoolExecutor, "map", fail):
             self.fails(MemoryError, points, offsets, threads=2)
 
     def test_the_first_ring_with_an_unsafe_point(self):
@@ -280,10 +280,10 @@ class Errors(unittest.TestCase):
                     self.assertIn(words, str(fault))
                     self.assertEqual(fault.offset, place)
 
-    def test_random_offsets_are_right_or_refused(self):
+    def test_random_offsets_are_right_or_errors(self):
         numbers = random.Random(9)
         points = np.zeros((6, 2), np.int16)
-        refused = 0
+        errors = 0
         for _ in range(3000):
             offsets = [numbers.randint(-1, 7)
                        for _ in range(numbers.randint(1, 4))]
@@ -299,8 +299,8 @@ class Errors(unittest.TestCase):
             else:
                 self.fails(i_shape.OffsetsError, points, offsets,
                            threads=threads)
-                refused += 1
-        self.assertTrue(500 < refused < 2900)
+                errors += 1
+        self.assertTrue(500 < errors < 2900)
 
     def test_offsets_are_tested_first(self):
         points = np.full((8, 2), np.iinfo(np.int32).min, np.int32)

@@ -126,7 +126,7 @@ class Windings(unittest.TestCase):
             self.assertEqual(
                 i_shape.winding_numbers(rings, [(1, 1)]).tolist(), [0])
 
-    def test_what_is_refused(self):
+    def test_errors(self):
         square = np.array([(0, 0), (4, 0), (4, 4), (0, 4)], np.int16)
         far = np.array([(0, 0), (2**14, 0)], np.int16)
         error = i_shape.UnsafePointError
@@ -144,7 +144,7 @@ class Windings(unittest.TestCase):
         with self.assertRaises(i_shape.OffsetsError):
             i_shape.winding_numbers(i_shape.Rings(square, np.array([0, 5])),
                                     square)
-        with self.assertRaisesRegex(TypeError, "one dtype"):
+        with self.assertRaisesRegex(TypeError, "not that of the contours"):
             i_shape.winding_numbers(square, square.astype(np.int32))
         with self.assertRaisesRegex(ValueError, "evenodd"):
             i_shape.contains_points(square, square, rule="odd")

@@ -21,8 +21,8 @@ from ._measures import (are_simple_polygons, area_two_polygons,
 from ._polygons import (Polygons, canonical_polygons, despike_polygons,
                         same_polygons, simplify_polygons)
 from ._rings import Rings, canonical_rings, despike_rings, simplify_rings
-from ._windings import (contains_points, locate, winding_number,
-                        winding_numbers)
+from ._windings import (contains_points, locate, locate_in_polygons,
+                        winding_number, winding_numbers)
 
 __all__ = [
     "Fault", "OffsetsError", "Polygons", "Rings", "UnsafePointError",
@@ -32,7 +32,7 @@ __all__ = [
     "despike_rings", "first_contact", "first_contact_of_rings",
     "has_no_spikes", "has_no_spikes_rings", "is_convex", "is_convex_rings",
     "is_safe", "is_safe_rings", "is_simple", "is_simple_polygon",
-    "is_simple_rings", "locate", "polygon_validity",
+    "is_simple_rings", "locate", "locate_in_polygons", "polygon_validity",
     "same_polygons", "same_rings", "simplify", "simplify_polygons",
     "simplify_rings", "winding_number", "winding_numbers",
 ]

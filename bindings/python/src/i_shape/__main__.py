@@ -23,12 +23,12 @@ from ._command import check, decimals, dedup, files, plot, report
 from ._command.report import Told
 from ._command.tally import Tally
 from ._library import version
-from ._rings import despike_rings, simplify_rings
-from .io import Features, Grid, features_from_grid, features_to_grid
-from .io._cleaners import Cleaned, Cleaner, clean, forms
+from .io import Grid
+from .io._cleaners import Cleaned, clean, forms
+from .io._features import Checked
+from .io._grid import floats_of, rounded_features
 
-_CLEANERS: dict[str, Cleaner] = {
-    "simplify": simplify_rings, "despike": despike_rings}
+_CLEANERS = ("simplify", "despike")
 _PICTURES = ("pdf", "png", "svg")
 _SHAPEFILE = (
     "; clean a shapefile as a GeoPackage: ogr2ogr x.gpkg IN.shp && i_shape"
@@ -185,22 +185,22 @@ def _options(words: Optional[Sequence[str]]) -> argparse.Namespace:
     return options
 
 
-def _cleaned(whole: Features, options: argparse.Namespace) -> Cleaned:
+def _cleaned(whole: Checked, options: argparse.Namespace) -> Cleaned:
     if options.call == "canonical":
         return forms(whole, options.oriented)
-    return clean(whole, _CLEANERS[options.call])
+    return clean(whole, options.call)
 
 
 def _clean(pair: files.Pair, options: argparse.Namespace,
            picture: plot.Picture) -> Told:
-    """Clean the features, and answer what is told of that."""
+    """Clean the features, and return the report."""
     unit = pair.area_unit if options.report else ""
     told, tally = report.Cleaning(options.grid, unit), Tally()
     for block in pair.blocks():
         with block.naming():
-            whole = features_to_grid(block.features, options.grid)
+            whole = rounded_features(block.features, options.grid)
         left, gone = _cleaned(whole, options)
-        answer = features_from_grid(left, options.grid)
+        answer = floats_of(left, options.grid)
         collapsed = tally.add(block, answer)
         is_dropped = options.collapsed == "drop"
         pair.write(block, answer, set(collapsed) if is_dropped else set())
@@ -225,7 +225,7 @@ def _print(lines: Iterable[str], is_beside: bool) -> None:
 
 
 def _check(options: argparse.Namespace) -> Told:
-    """Test the features, and return what is told of those with faults."""
+    """Test the features, and return the report of those with faults."""
     with ExitStack() as last:
         pair = last.enter_context(files.opened_to_read(
             options.given, options.others, options.layer))
@@ -237,7 +237,7 @@ def _check(options: argparse.Namespace) -> Told:
 
 
 def _run(options: argparse.Namespace) -> Told:
-    """Do what the words ask for, and answer what is said at the end."""
+    """Do what the words ask for, and return what is said at the end."""
     if options.call == "check":
         return _check(options)
     picture = plot.Picture()
@@ -260,8 +260,8 @@ def _run(options: argparse.Namespace) -> Told:
 def main(words: Optional[Sequence[str]] = None) -> int:
     """Run the command, and return its status.
 
-    It is 0 where all went well, 1 after an error, which is told of on
-    standard error, or where check finds a feature that isn't valid, and 130
+    It is 0 where all went well, 1 after an error, which a line on standard
+    error names, or where check finds a feature that isn't valid, and 130
     where it was interrupted. Words that aren't understood end the program
     with 2. OUT is replaced last, and then a line on standard error says how
     many features changed, or aren't valid.
@@ -282,7 +282,7 @@ def main(words: Optional[Sequence[str]] = None) -> int:
 
 
 def _told(text: str, status: int = 1) -> int:
-    """Tell of it where that can be read, and answer the status."""
+    """Print it where that can be read, and return the status."""
     if sys.stderr is not None:  # as where it was closed from the start
         with suppress(OSError):
             print(f"i_shape: {text}", file=sys.stderr)

@@ -8,10 +8,10 @@ from typing import Any, Optional, TypeVar
 import numpy as np
 import numpy.typing as npt
 
-from ._library import (CALLS, Array, address, as_offsets, as_parts, as_points,
-                       check_offsets, raise_code, run_parts)
-from ._polygons import given_polygons
-from ._rings import equal_cuts, raise_codes
+from ._library import (CALLS, Array, address, as_parts, as_points, raise_code,
+                       run_parts)
+from ._polygons import GivenPolygons, given_polygons
+from ._rings import equal_cuts, given_rings, raise_codes
 
 Int = TypeVar("Int", np.int16, np.int32, np.int64)
 
@@ -102,16 +102,14 @@ def first_contact_of_rings(
     >>> first_contact_of_rings(points, [0, 4, 7])
     (2, 4)
     """
-    points = as_points(points)
-    given = as_offsets(offsets)
-    check_offsets(given, len(points))
-    start, end = int(given[0]), int(given[-1])
-    its, rings = points[start:end], given - start
+    given = given_rings(points, offsets)
+    start, end = int(given.offsets[0]), int(given.offsets[-1])
+    its, rings = given.points[start:end], given.offsets - start
     places = np.empty(2, np.uintp)
-    code = CALLS[points.itemsize].first_contact_of_rings(
+    code = CALLS[its.itemsize].first_contact_of_rings(
         address(its), len(its), address(rings), len(rings), address(places),
         len(places))
-    raise_codes([code], points, given)
+    raise_codes([code], given)
     return _pair(places, start) if code else None
 
 
@@ -205,9 +203,13 @@ def polygon_validity(points: npt.NDArray[Int], ring_offsets: npt.ArrayLike,
     >>> Fault(3).name, int(faults["first"][1])
     ('HOLE_OUTSIDE', 2)
     """
-    points, rings, polygons, before = given_polygons(
-        points, ring_offsets, polygon_offsets)
-    check_offsets(rings, len(points), "ring_offsets", before=before)
+    return find_faults(given_polygons(points, ring_offsets, polygon_offsets),
+                       threads)
+
+
+def find_faults(given: GivenPolygons, threads: Any) -> npt.NDArray[np.void]:
+    """The first fault of each polygon."""
+    (points, rings, before), polygons = given
     parts = as_parts(threads, len(polygons) - 1)
     cuts = equal_cuts(rings[polygons], parts)
     faults = np.zeros(len(polygons) - 1, _FAULT)
@@ -217,7 +219,7 @@ def polygon_validity(points: npt.NDArray[Int], ring_offsets: npt.ArrayLike,
         return _test_polygons(points, rings, polygons[start:end + 1],
                               faults[start:end])
 
-    raise_codes(run_parts(test, parts), points, rings, before)
+    raise_codes(run_parts(test, parts), given.rings)
     _count_rings(faults, before)
     return faults
 

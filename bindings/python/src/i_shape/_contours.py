@@ -119,7 +119,7 @@ def canonical(points: npt.NDArray[Int], *,
     """Return the least rotation of the simplified contour, read either way.
 
     Lists are compared point by point, and points by x and then by y. Two
-    contours have equal answers exactly where one becomes the other by
+    contours have equal results exactly where one becomes the other by
     turning it to another start, by removing or adding zero turns, and by
     reading it backwards.
 
@@ -207,7 +207,7 @@ def _test(name: str, points: npt.NDArray[Int]) -> bool:
 def is_simple(points: npt.NDArray[Int]) -> bool:
     """Return whether there are at least three points and no zero turn.
 
-    Exactly then :func:`simplify` answers the same points. Edges that cross
+    Exactly then :func:`simplify` returns the same points. Edges that cross
     one another are not looked for.
 
     Parameters

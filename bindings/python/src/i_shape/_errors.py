@@ -10,7 +10,7 @@ class UnsafePointError(ValueError):
 
     A point is safe where both coordinates lie strictly between
     ``-2**(W-2)`` and ``2**(W-2)``, where ``W`` is the number of bits of the
-    dtype: 16, 32 or 64. Nothing has been answered.
+    dtype: 16, 32 or 64. Nothing has been returned.
 
     Attributes
     ----------

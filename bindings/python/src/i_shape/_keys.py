@@ -12,7 +12,7 @@ import numpy as np
 import numpy.typing as npt
 
 from ._library import Array
-from ._polygons import Given, given_polygons, which_left
+from ._polygons import given_polygons, which_left
 from ._rings import Rings, canonical_cleaner, canonical_rings, clean_rings
 
 Int = TypeVar("Int", np.int16, np.int32, np.int64)
@@ -74,8 +74,7 @@ def _keys_of_forms(forms: Rings, parts: Array) -> list[bytes]:
     counts = np.diff(firsts)
     _sort_holes(forms, rings, firsts[:-1], counts)
     points, offsets = _picked(*forms, rings)
-    # Before each polygon that is left stands its word, and before each ring
-    # one.
+    # Each polygon that is left begins with its word, and each ring with one.
     starts = np.arange(len(firsts)) + firsts + 2 * offsets[firsts]
     ring_words = (np.repeat(np.arange(1, len(firsts)), counts)
                   + np.arange(len(rings)) + 2 * offsets[:-1])
@@ -89,22 +88,19 @@ def _keys_of_forms(forms: Rings, parts: Array) -> list[bytes]:
                                               np.arange(len(parts)))])
 
 
-def _keys_of_polygons(given: Given, oriented: bool,
-                      threads: Any) -> list[bytes]:
-    points, offsets = clean_rings(
-        canonical_cleaner(oriented), given.points, given.rings, threads,
-        "ring_offsets", given.before)
+def keys_of_polygons(forms: Rings, polygon_offsets: Array) -> list[bytes]:
+    """The keys of polygons, by the forms of their rings."""
     keys: list[bytes] = []
     # One block after another takes less memory.
-    for start in range(0, len(given.parts) - 1, _BLOCK):
-        parts = given.parts[start:start + _BLOCK + 1]
-        ends = offsets[parts[0]:parts[-1] + 1]
-        forms = Rings(points[ends[0]:ends[-1]], ends - ends[0])
-        keys += _keys_of_forms(forms, parts - parts[0])
+    for start in range(0, len(polygon_offsets) - 1, _BLOCK):
+        parts = polygon_offsets[start:start + _BLOCK + 1]
+        ends = forms.offsets[parts[0]:parts[-1] + 1]
+        its = Rings(forms.points[ends[0]:ends[-1]], ends - ends[0])
+        keys += _keys_of_forms(its, parts - parts[0])
     return keys
 
 
-def _as_array(keys: Sequence[bytes]) -> npt.NDArray[np.object_]:
+def as_objects(keys: Sequence[bytes]) -> npt.NDArray[np.object_]:
     array = np.empty(len(keys), object)
     array[:] = keys
     return array
@@ -176,8 +172,9 @@ def canonical_keys(points: npt.NDArray[Int], ring_offsets: npt.ArrayLike,
             points, ring_offsets, threads=threads, oriented=oriented)))
     else:
         given = given_polygons(points, ring_offsets, polygon_offsets)
-        keys = _keys_of_polygons(given, oriented, threads)
-    return _as_array(keys)
+        forms = clean_rings(canonical_cleaner(oriented), given.rings, threads)
+        keys = keys_of_polygons(forms, given.parts)
+    return as_objects(keys)
 
 
 def same_rings(a: Pair, b: Pair, *, oriented: bool = False,

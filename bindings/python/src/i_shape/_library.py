@@ -12,8 +12,8 @@ import os
 import sys
 from concurrent.futures import ThreadPoolExecutor
 from pathlib import Path
-from typing import (Any, Callable, Literal, NamedTuple, NoReturn, Optional,
-                    TypeVar)
+from typing import (Any, Callable, Iterator, Literal, NamedTuple, NoReturn,
+                    Optional, TypeVar)
 
 import numpy as np
 import numpy.typing as npt
@@ -41,8 +41,8 @@ class Halves(ctypes.Structure):
 def _has_v2() -> bool:
     """Whether Linux says that the processor has all of x86-64-v2."""
     try:
-        with open("/proc/cpuinfo") as told:
-            flags = next((line for line in told if line.startswith("flags")),
+        with open("/proc/cpuinfo") as lines:
+            flags = next((line for line in lines if line.startswith("flags")),
                          "")
     except OSError:
         return False
@@ -96,6 +96,7 @@ class Calls(NamedTuple):
     windings: Any
     contains_points: Any
     locate: Any
+    locate_in_shapes: Any
     first_contact: Any
     first_contact_of_rings: Any
     validity_shapes: Any
@@ -144,6 +145,9 @@ def _calls(bits: int, number: Any, area: Any) -> Calls:
                               *array),
         locate=_call(f"i_shape_locate_i{bits}", ctypes.c_int32, *array * 3,
                      ctypes.c_int32, *array),
+        locate_in_shapes=_call(f"i_shape_locate_in_shapes_i{bits}",
+                               ctypes.c_int32, *array * 4, ctypes.c_int32,
+                               *array),
         first_contact=_call(f"i_shape_first_contact_i{bits}",
                             ctypes.c_int32, *array * 2),
         first_contact_of_rings=_call(
@@ -182,6 +186,12 @@ def address(array: Array) -> int:
     return array.ctypes.data if array.size else _NOTHING
 
 
+def words(*arrays: Array) -> Iterator[int]:
+    """Of each array what a call takes: its address and its length."""
+    for array in arrays:
+        yield from (address(array), len(array))
+
+
 def _as_it_lies(array: Array) -> bool:
     return array.flags.c_contiguous and array.flags.aligned
 
@@ -196,10 +206,10 @@ def as_points(points: Any) -> Array:
     dtype = array.dtype
     if dtype.kind != "i" or not dtype.isnative or dtype.itemsize not in CALLS:
         raise TypeError(
-            f"points have dtype {dtype.str if dtype.kind in 'iu' else dtype}:"
-            " int16, int32 or int64 in native byte order is needed")
+            f"points have dtype {dtype.str if dtype.kind in 'iu' else dtype},"
+            " not int16, int32 or int64 in native byte order")
     if array.ndim != 2 or array.shape[1] != 2:
-        raise ValueError(f"points have shape {array.shape}: (n, 2) is needed")
+        raise ValueError(f"points have shape {array.shape}, not (n, 2)")
     return array if _as_it_lies(array) else array.copy(order="C")
 
 
@@ -215,11 +225,10 @@ def as_offsets(offsets: Any, name: str = "offsets") -> Array:
     if not array.size and not isinstance(offsets, np.ndarray):
         array = array.astype(np.int64)  # of no number numpy makes floats
     if array.dtype.kind not in "iu":
-        raise TypeError(f"{name} have dtype {array.dtype}: whole numbers"
-                        " are needed")
+        raise TypeError(f"{name} have dtype {array.dtype}, not one of whole"
+                        " numbers")
     if array.ndim != 1:
-        raise ValueError(f"{name} have shape {array.shape}: (m + 1,) is"
-                         " needed")
+        raise ValueError(f"{name} have shape {array.shape}, not (m + 1,)")
     if not array.size:
         raise OffsetsError(f"{name} are empty: no ring has the offsets [0]")
     copied: Array = array.astype(np.int64, order="C")
@@ -233,15 +242,14 @@ def as_offsets(offsets: Any, name: str = "offsets") -> Array:
 def as_rule(rule: str) -> int:
     """The code of the fill rule in C."""
     if rule not in _RULES:
-        raise ValueError(f"rule is {rule!r}: one of {', '.join(_RULES)} is"
-                         " needed")
+        raise ValueError(f"rule is {rule!r}, not one of {', '.join(_RULES)}")
     return _RULES.index(rule)
 
 
 def as_threads(threads: Any) -> int:
     number: int = operator.index(threads)
     if number < 1:
-        raise ValueError(f"threads is {number}: at least 1 is needed")
+        raise ValueError(f"threads is {number}, not at least 1")
     return number
 
 
@@ -258,7 +266,7 @@ def as_parts(threads: Any, items: int) -> int:
 
 
 def run_parts(run: Callable[[int], Part], parts: int) -> list[Part]:
-    """What each part answers. Several parts run in a thread each."""
+    """What each part returns. Several parts run in a thread each."""
     if parts == 1:
         return [run(0)]
     with ThreadPoolExecutor(parts) as pool:
@@ -319,7 +327,7 @@ def check_offsets(offsets: Array, limit: int, name: str = "offsets",
                   of: str = "points", before: int = 0) -> None:
     """Raise an error for the first offset that doesn't divide so many items.
 
-    The first of the offsets stands at the place ``before``.
+    The first of the offsets is at the place ``before``.
     """
     place = _first_bad_offset(limit, address(offsets), len(offsets))
     if place == len(offsets):

@@ -7,10 +7,9 @@ from typing import Any, TypeVar
 import numpy as np
 import numpy.typing as npt
 
-from ._library import (CALLS, Array, address, as_offsets, as_parts, as_points,
-                       check_offsets, run_parts)
+from ._library import CALLS, Array, address, as_parts, run_parts
 from ._polygons import given_polygons
-from ._rings import equal_cuts, raise_codes
+from ._rings import GivenRings, equal_cuts, given_rings, raise_codes
 
 Int = TypeVar("Int", np.int16, np.int32, np.int64)
 
@@ -22,16 +21,11 @@ _AREAS: dict[int, Any] = {
 }
 
 
-def _measure_rings(call: Any, points: Array, offsets: Array, item: Any,
-                   threads: Any, name: str = "offsets",
-                   before: int = 0) -> Array:
-    """What a call writes of each ring.
-
-    An error calls the offsets by ``name``, and counts them and the rings
-    from ``before`` on.
-    """
+def _measure_rings(call: Any, given: GivenRings, item: Any,
+                   threads: Any) -> Array:
+    """What a call writes of each ring."""
+    points, offsets, _ = given
     parts = as_parts(threads, len(offsets) - 1)
-    check_offsets(offsets, len(points), name, before=before)
     cuts = [0, len(offsets) - 1] if parts == 1 else equal_cuts(offsets, parts)
     out = np.empty(len(offsets) - 1, item)
 
@@ -42,15 +36,15 @@ def _measure_rings(call: Any, points: Array, offsets: Array, item: Any,
                          address(items), len(items))
         return code
 
-    raise_codes(run_parts(measure, parts), points, offsets, before)
+    raise_codes(run_parts(measure, parts), given)
     return out
 
 
-def _test_rings(test: str, points: Any, offsets: Any,
-                threads: Any) -> npt.NDArray[np.bool_]:
-    points = as_points(points)
-    return _measure_rings(CALLS[points.itemsize].test_many[test], points,
-                          as_offsets(offsets), np.bool_, threads)
+def test_rings(test: str, given: GivenRings,
+               threads: Any) -> npt.NDArray[np.bool_]:
+    """Of which rings a test of the library holds."""
+    return _measure_rings(CALLS[given.points.itemsize].test_many[test], given,
+                          np.bool_, threads)
 
 
 def is_simple_rings(points: npt.NDArray[Int], offsets: npt.ArrayLike, *,
@@ -69,7 +63,7 @@ def is_simple_rings(points: npt.NDArray[Int], offsets: npt.ArrayLike, *,
     Returns
     -------
     array of shape (m,) and dtype bool
-        For each ring what :func:`is_simple` answers, in order.
+        For each ring what :func:`is_simple` returns, in order.
 
     Raises
     ------
@@ -87,7 +81,7 @@ def is_simple_rings(points: npt.NDArray[Int], offsets: npt.ArrayLike, *,
     >>> is_simple_rings(points, [0, 3, 7]).tolist()
     [True, False]
     """
-    return _test_rings("is_simple", points, offsets, threads)
+    return test_rings("is_simple", given_rings(points, offsets), threads)
 
 
 def has_no_spikes_rings(points: npt.NDArray[Int], offsets: npt.ArrayLike, *,
@@ -104,7 +98,7 @@ def has_no_spikes_rings(points: npt.NDArray[Int], offsets: npt.ArrayLike, *,
     Returns
     -------
     array of shape (m,) and dtype bool
-        For each ring what :func:`has_no_spikes` answers, in order.
+        For each ring what :func:`has_no_spikes` returns, in order.
 
     Raises
     ------
@@ -120,7 +114,7 @@ def has_no_spikes_rings(points: npt.NDArray[Int], offsets: npt.ArrayLike, *,
     >>> has_no_spikes_rings(points, [0, 3, 8]).tolist()
     [True, False]
     """
-    return _test_rings("has_no_spikes", points, offsets, threads)
+    return test_rings("has_no_spikes", given_rings(points, offsets), threads)
 
 
 def is_convex_rings(points: npt.NDArray[Int], offsets: npt.ArrayLike, *,
@@ -140,7 +134,7 @@ def is_convex_rings(points: npt.NDArray[Int], offsets: npt.ArrayLike, *,
     Returns
     -------
     array of shape (m,) and dtype bool
-        For each ring what :func:`is_convex` answers, in order.
+        For each ring what :func:`is_convex` returns, in order.
 
     Raises
     ------
@@ -156,7 +150,7 @@ def is_convex_rings(points: npt.NDArray[Int], offsets: npt.ArrayLike, *,
     >>> is_convex_rings(points, [0, 3, 7]).tolist()
     [True, False]
     """
-    return _test_rings("is_convex", points, offsets, threads)
+    return test_rings("is_convex", given_rings(points, offsets), threads)
 
 
 def are_simple_polygons(points: npt.NDArray[Int], offsets: npt.ArrayLike, *,
@@ -176,7 +170,7 @@ def are_simple_polygons(points: npt.NDArray[Int], offsets: npt.ArrayLike, *,
     Returns
     -------
     array of shape (m,) and dtype bool
-        For each ring what :func:`is_simple_polygon` answers, in order.
+        For each ring what :func:`is_simple_polygon` returns, in order.
 
     Raises
     ------
@@ -192,7 +186,8 @@ def are_simple_polygons(points: npt.NDArray[Int], offsets: npt.ArrayLike, *,
     >>> are_simple_polygons(points, [0, 3, 7]).tolist()
     [True, False]
     """
-    return _test_rings("is_simple_polygon", points, offsets, threads)
+    return test_rings("is_simple_polygon", given_rings(points, offsets),
+                      threads)
 
 
 def is_safe_rings(points: npt.NDArray[Int], offsets: npt.ArrayLike, *,
@@ -211,7 +206,7 @@ def is_safe_rings(points: npt.NDArray[Int], offsets: npt.ArrayLike, *,
     Returns
     -------
     array of shape (m,) and dtype bool
-        For each ring what :func:`is_safe` answers, in order.
+        For each ring what :func:`is_safe` returns, in order.
 
     Raises
     ------
@@ -226,14 +221,13 @@ def is_safe_rings(points: npt.NDArray[Int], offsets: npt.ArrayLike, *,
     >>> is_safe_rings(points, [0, 1, 3]).tolist()
     [True, False]
     """
-    return _test_rings("is_safe", points, offsets, threads)
+    return test_rings("is_safe", given_rings(points, offsets), threads)
 
 
-def _areas(points: Array, offsets: Array, threads: Any,
-           name: str = "offsets", before: int = 0) -> Array:
+def _areas(given: GivenRings, threads: Any) -> Array:
     """Twice the area of each ring, as the library writes it."""
-    return _measure_rings(CALLS[points.itemsize].areas, points, offsets,
-                          _AREAS[points.itemsize], threads, name, before)
+    size = given.points.itemsize
+    return _measure_rings(CALLS[size].areas, given, _AREAS[size], threads)
 
 
 def _as_whole(areas: Array) -> Array:
@@ -264,14 +258,14 @@ def area_two_rings(points: npt.NDArray[Int], offsets: npt.ArrayLike, *,
     threads : int
         As for :func:`is_simple_rings`.
     halves : bool
-        True answers the areas of points of int64 as two numbers of 64 bits
+        True returns the areas of points of int64 as two numbers of 64 bits
         each, which numpy, pandas and databases have: the fields ``low``, of
         uint64, and ``high``, of int64, of ``high * 2**64 + low``.
 
     Returns
     -------
     array of shape (m,)
-        For each ring what :func:`area_two` answers, in order, and 0 where
+        For each ring what :func:`area_two` returns, in order, and 0 where
         the ring has no point. The dtype is int32 for points of int16, int64
         for int32, and object for int64: numbers of Python, since an area
         may take 128 bits. A sum that doesn't fit these bits wraps around.
@@ -295,10 +289,10 @@ def area_two_rings(points: npt.NDArray[Int], offsets: npt.ArrayLike, *,
     >>> areas["low"].astype("int64").tolist(), areas["high"].tolist()
     ([32, 0, -9], [0, 0, -1])
     """
-    points = as_points(points)
+    given = given_rings(points, offsets)
     if halves:
-        _require_halves(points)
-    areas = _areas(points, as_offsets(offsets), threads)
+        _require_halves(given.points)
+    areas = _areas(given, threads)
     return areas if halves else _as_whole(areas)
 
 
@@ -328,7 +322,7 @@ def area_two_polygons(points: npt.NDArray[Int], ring_offsets: npt.ArrayLike,
     -------
     array of shape (p,)
         In order, and 0 where the polygon has no ring, in the dtype that
-        :func:`area_two_rings` answers. A sum that doesn't fit twice the
+        :func:`area_two_rings` returns. A sum that doesn't fit twice the
         bits of ``points`` wraps.
 
     Raises
@@ -347,9 +341,8 @@ def area_two_polygons(points: npt.NDArray[Int], ring_offsets: npt.ArrayLike,
     """
     given = given_polygons(points, ring_offsets, polygon_offsets)
     if halves:
-        _require_halves(given.points)
-    areas = _as_whole(_areas(given.points, given.rings, threads,
-                             "ring_offsets", given.before))
+        _require_halves(given.rings.points)
+    areas = _as_whole(_areas(given.rings, threads))
     sums = np.zeros(len(areas) + 1, areas.dtype)
     # What wraps on the way doesn't change a difference.
     np.cumsum(areas, dtype=areas.dtype, out=sums[1:])

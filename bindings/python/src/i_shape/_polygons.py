@@ -1,20 +1,20 @@
 """Polygons: rings with offsets of their own.
 
-The library cleans their rings, and tells which of these and of the polygons
+The library cleans their rings, and returns which of these and of the polygons
 are left.
 """
 
 from __future__ import annotations
 
-from typing import Any, Iterator, NamedTuple, Tuple, TypeVar
+from typing import Any, NamedTuple, Tuple, TypeVar
 
 import numpy as np
 import numpy.typing as npt
 
-from ._library import (CALLS, COMPACT_SHAPES, Array, address, as_offsets,
-                       as_parts, as_points, as_threads, check_offsets,
-                       run_parts)
-from ._rings import Rings, canonical_cleaner, clean_rings, raise_codes
+from ._library import (CALLS, COMPACT_SHAPES, Array, as_offsets, as_parts,
+                       as_points, as_threads, check_offsets, run_parts, words)
+from ._rings import (GivenRings, Rings, canonical_cleaner, clean_rings,
+                     raise_codes)
 
 Int = TypeVar("Int", np.int16, np.int32, np.int64)
 
@@ -45,32 +45,27 @@ class Polygons(NamedTuple):
     polygon_offsets: npt.NDArray[np.int64]
 
 
-class Given(NamedTuple):
-    """The arrays of a call: the polygons' rings, the first of them ring
-    ``before`` of those that were given, and the polygons' offsets, from 0 on.
+class GivenPolygons(NamedTuple):
+    """Polygons that a caller gave, tested: nothing tests them again.
+
+    The offsets ``parts`` divide their rings, from 0 on.
     """
 
-    points: Array
-    rings: Array
+    rings: GivenRings
     parts: Array
-    before: int
 
 
 def given_polygons(points: Any, ring_offsets: Any,
-                   polygon_offsets: Any) -> Given:
-    """The arrays of polygons, tested but for the offsets of their rings."""
+                   polygon_offsets: Any) -> GivenPolygons:
+    """The polygons, tested; rings that none of them has are not."""
     points = as_points(points)
     rings = as_offsets(ring_offsets, "ring_offsets")
     parts = as_offsets(polygon_offsets, "polygon_offsets")
     check_offsets(parts, len(rings) - 1, "polygon_offsets", "rings")
     start, end = int(parts[0]), int(parts[-1])
-    return Given(points, rings[start:end + 1], parts - start, start)
-
-
-def _words(*arrays: Array) -> Iterator[int]:
-    """Of each array what a call takes: its address and its length."""
-    for array in arrays:
-        yield from (address(array), len(array))
+    rings = rings[start:end + 1]
+    check_offsets(rings, len(points), "ring_offsets", before=start)
+    return GivenPolygons(GivenRings(points, rings, start), parts - start)
 
 
 def _shrink(array: Array, length: int) -> None:
@@ -95,7 +90,7 @@ def which_left(ring_offsets: Array, polygon_offsets: Array) -> Left:
     left = Left(np.empty(len(ring_offsets) - 1, np.int64),
                 np.empty(len(polygon_offsets) - 1, np.int64),
                 np.empty(len(polygon_offsets), np.int64))
-    count = COMPACT_SHAPES(*_words(ring_offsets, polygon_offsets, *left))
+    count = COMPACT_SHAPES(*words(ring_offsets, polygon_offsets, *left))
     _shrink(left.polygons, count)
     _shrink(left.offsets, count + 1)
     _shrink(left.rings, int(left.offsets[-1]))
@@ -117,24 +112,23 @@ def left_polygons(rings: Rings, left: Left) -> Polygons:
     return Polygons(points, ends, left.offsets)
 
 
-def _clean_rings(cleaner: str, given: Given, threads: Any) -> Polygons:
+def _clean_rings(cleaner: str, given: GivenPolygons,
+                 threads: Any) -> Polygons:
     """Clean each ring, and leave out what collapses."""
-    rings = clean_rings(cleaner, given.points, given.rings, threads,
-                        "ring_offsets", given.before)
+    rings = clean_rings(cleaner, given.rings, threads)
     return left_polygons(rings, which_left(rings.offsets, given.parts))
 
 
-def _clean_whole(cleaner: str, given: Given) -> Polygons:
+def clean_whole(cleaner: str, given: GivenPolygons) -> Polygons:
     """Clean the polygons by one call of the library."""
-    check_offsets(given.rings, len(given.points), "ring_offsets",
-                  before=given.before)
-    first, last = int(given.rings[0]), int(given.rings[-1])
-    points, rings = given.points[first:last], given.rings - first
+    points, rings, _ = given.rings
+    first, last = int(rings[0]), int(rings[-1])
+    points, rings = points[first:last], rings - first
     left = Polygons(np.empty_like(points), np.empty_like(rings),
                     np.empty_like(given.parts))
     count: int = CALLS[points.itemsize].polygons[cleaner](
-        *_words(points, rings, given.parts, *left))
-    raise_codes([count], given.points, given.rings, given.before)
+        *words(points, rings, given.parts, *left))
+    raise_codes([count], given.rings)
     _shrink(left.polygon_offsets, count + 1)
     _shrink(left.ring_offsets, int(left.polygon_offsets[-1]) + 1)
     _shrink(left.points, int(left.ring_offsets[-1]))
@@ -193,7 +187,7 @@ def simplify_polygons(points: npt.NDArray[Int], ring_offsets: npt.ArrayLike,
     """
     given = given_polygons(points, ring_offsets, polygon_offsets)
     if as_parts(threads, len(given.parts) - 1) == 1:
-        return _clean_whole("simplify", given)
+        return clean_whole("simplify", given)
     return _clean_rings("simplify", given, threads)
 
 
@@ -203,7 +197,7 @@ def despike_polygons(points: npt.NDArray[Int], ring_offsets: npt.ArrayLike,
     """Return each polygon without the back points of its rings.
 
     It is :func:`simplify_polygons`, but a ring is left as :func:`despike`
-    answers it: without repeated points and spikes, and with vertices that
+    returns it: without repeated points and spikes, and with vertices that
     lie on an edge. :func:`i_shape.io.despike_features` does the same to the
     polygons of features.
 
@@ -299,7 +293,7 @@ def canonical_polygons(points: npt.NDArray[Int], ring_offsets: npt.ArrayLike,
     """
     given = given_polygons(points, ring_offsets, polygon_offsets)
     as_threads(threads)
-    return _clean_whole(canonical_cleaner(oriented), given)
+    return clean_whole(canonical_cleaner(oriented), given)
 
 
 def same_polygons(a: Triple, b: Triple, *, oriented: bool = False,

@@ -32,11 +32,30 @@ class Rings(NamedTuple):
     offsets: npt.NDArray[np.int64]
 
 
+class GivenRings(NamedTuple):
+    """Rings that a caller gave, tested: nothing tests them again.
+
+    The first of them is ring ``before`` of those that were given.
+    """
+
+    points: Array
+    offsets: Array
+    before: int = 0
+
+
+def given_rings(points: Any, offsets: Any) -> GivenRings:
+    """The rings, tested."""
+    points = as_points(points)
+    offsets = as_offsets(offsets)
+    check_offsets(offsets, len(points))
+    return GivenRings(points, offsets)
+
+
 def _clean_part(call: Any, points: Array, offsets: Array,
                 out: Array) -> tuple[int, Array]:
     """Clean the rings of some offsets into ``out``, which has their room.
 
-    It answers how many points are written, or a code, and their offsets.
+    It returns how many points are written, or a code, and their offsets.
     """
     start, end = int(offsets[0]), int(offsets[-1])
     points = points[start:end]
@@ -57,12 +76,9 @@ def equal_cuts(offsets: Array, parts: int) -> list[int]:
     return [0, *inner.tolist(), len(offsets) - 1]
 
 
-def raise_codes(codes: list[int], points: Array, offsets: Array,
-                before: int = 0) -> None:
-    """Raise what one call on all the rings would have.
-
-    The error counts the rings from ``before`` on.
-    """
+def raise_codes(codes: list[int], given: GivenRings) -> None:
+    """Raise what one call on all the rings would have."""
+    points, offsets, before = given
     if UNSAFE in codes:
         start, end = int(offsets[0]), int(offsets[-1])
         place = first_unsafe(points[start:end])
@@ -78,23 +94,16 @@ def raise_codes(codes: list[int], points: Array, offsets: Array,
         raise_code(NO_MEMORY, points)
 
 
-def clean_rings(cleaner: str, points: Any, offsets: Any, threads: Any,
-                name: str = "offsets", before: int = 0) -> Rings:
-    """Clean each ring.
-
-    An error calls the offsets by ``name``, and counts them and the rings
-    from ``before`` on.
-    """
-    points = as_points(points)
-    offsets = as_offsets(offsets)
+def clean_rings(cleaner: str, given: GivenRings, threads: Any) -> Rings:
+    """Clean each ring."""
+    points, offsets, _ = given
     parts = as_parts(threads, len(offsets) - 1)
-    check_offsets(offsets, len(points), name, before=before)
     start, end = int(offsets[0]), int(offsets[-1])
     call = CALLS[points.itemsize].many[cleaner]
     out = np.empty((end - start, 2), points.dtype)
     if parts == 1:
         total, ends = _clean_part(call, points, offsets, out)
-        raise_codes([total], points, offsets, before)
+        raise_codes([total], given)
     else:
         cuts = equal_cuts(offsets, parts)
         starts = (offsets[cuts] - start).tolist()
@@ -105,7 +114,7 @@ def clean_rings(cleaner: str, points: Any, offsets: Any, threads: Any,
                                out[starts[part]:starts[part + 1]])
 
         answers = run_parts(clean_part, parts)
-        raise_codes([left for left, _ in answers], points, offsets, before)
+        raise_codes([left for left, _ in answers], given)
         # What the parts have left is moved together, from the front on.
         ends = np.empty(offsets.shape, np.int64)
         ends[0] = total = 0
@@ -148,7 +157,7 @@ def simplify_rings(points: npt.NDArray[Int], offsets: npt.ArrayLike, *,
     -------
     Rings
         The named tuple ``(points, offsets)``: for each ring what
-        :func:`simplify` answers, in order, in the dtype of ``points``. A
+        :func:`simplify` returns, in order, in the dtype of ``points``. A
         ring that collapses is empty and keeps its place. Offsets are int64
         and start at 0.
 
@@ -183,7 +192,7 @@ def simplify_rings(points: npt.NDArray[Int], offsets: npt.ArrayLike, *,
     >>> left.offsets.tolist()
     [0, 4, 4]
     """
-    return clean_rings("simplify", points, offsets, threads)
+    return clean_rings("simplify", given_rings(points, offsets), threads)
 
 
 def despike_rings(points: npt.NDArray[Int], offsets: npt.ArrayLike, *,
@@ -215,7 +224,7 @@ def despike_rings(points: npt.NDArray[Int], offsets: npt.ArrayLike, *,
     >>> despike_rings(points, [0, 6]).offsets.tolist()
     [0, 4]
     """
-    return clean_rings("despike", points, offsets, threads)
+    return clean_rings("despike", given_rings(points, offsets), threads)
 
 
 def canonical_rings(points: npt.NDArray[Int], offsets: npt.ArrayLike, *,
@@ -251,4 +260,5 @@ def canonical_rings(points: npt.NDArray[Int], offsets: npt.ArrayLike, *,
     >>> canonical_rings(points, [0, 5], oriented=True).points.tolist()
     [[0, 0], [4, 0], [4, 4], [0, 4]]
     """
-    return clean_rings(canonical_cleaner(oriented), points, offsets, threads)
+    return clean_rings(canonical_cleaner(oriented),
+                       given_rings(points, offsets), threads)

@@ -9,10 +9,10 @@ import numpy.typing as npt
 
 from ._errors import UnsafePointError
 from ._library import (CALLS, NO_WINDING, UNSAFE, Array, FillRule, address,
-                       as_offsets, as_parts, as_points, as_rule,
-                       as_safe_point, check_offsets, first_unsafe, raise_code,
-                       run_parts, unsafe_text)
-from ._rings import Rings, raise_codes
+                       as_parts, as_points, as_rule, as_safe_point,
+                       first_unsafe, raise_code, run_parts, unsafe_text, words)
+from ._polygons import GivenPolygons, given_polygons
+from ._rings import GivenRings, Rings, given_rings, raise_codes
 
 Int = TypeVar("Int", np.int16, np.int32, np.int64)
 Contours = Union[npt.NDArray[Int], Rings,
@@ -67,13 +67,13 @@ def winding_number(points: npt.NDArray[Int], point: Sequence[int]) -> int:
     return answer
 
 
-def _raise(code: int, points: Array, offsets: Array, about: Array) -> None:
+def _raise(code: int, given: GivenRings, about: Array) -> None:
     """Raise what a code stands for, and nothing for 0."""
     place = first_unsafe(about) if code == UNSAFE else None
     if place is not None:
         raise UnsafePointError(
             unsafe_text(f"about[{place}]", about[place], about.dtype))
-    raise_codes([code], points, offsets)
+    raise_codes([code], given)
 
 
 def _are_many(contours: Any) -> bool:
@@ -87,35 +87,63 @@ def _are_many(contours: Any) -> bool:
     return np.ndim(points) == 2 or np.size(points) == 0
 
 
-def _tell(name: str, contours: Any, about: Any, rule: Sequence[int],
-          dtype: Any, threads: int) -> Any:
-    """Return what the call of C tells of each of the points."""
+def _given(contours: Any) -> GivenRings:
+    """The contour, or the contours, tested."""
     if _are_many(contours):
-        points, offsets = as_points(contours[0]), as_offsets(contours[1])
-    else:
-        points = as_points(contours)
-        offsets = np.array([0, len(points)], np.int64)
-    about = as_points(about)
-    if about.dtype != points.dtype:
-        raise TypeError(f"about has dtype {about.dtype}, the contours"
-                        f" {points.dtype}: one dtype is needed")
-    check_offsets(offsets, len(points))
+        return given_rings(*contours)
+    points = as_points(contours)
+    return GivenRings(points, np.array([0, len(points)], np.int64))
+
+
+def _as_about(about: Any, points: Array) -> Array:
+    """The points that a call on these is asked about, tested."""
+    asked = as_points(about)
+    if asked.dtype != points.dtype:
+        raise TypeError(f"about has dtype {asked.dtype}, and not that of the"
+                        f" contours, {points.dtype}")
+    return asked
+
+
+def _ask_of(name: str, given: GivenRings, divided: Sequence[Array],
+            about: Array, rule: Sequence[int], dtype: Any,
+            threads: int) -> Any:
+    """Return what the call of C writes of each of the points.
+
+    The offsets ``divided`` are further ones that it takes.
+    """
+    points, offsets, _ = given
     parts = as_parts(threads, len(about))
     out = np.empty(len(about), dtype)
     call = getattr(CALLS[points.itemsize], name)
 
-    def tell(part: int) -> int:
+    def ask(part: int) -> int:
         start = len(about) * part // parts
         end = len(about) * (part + 1) // parts
-        its, told = about[start:end], out[start:end]
-        code: int = call(address(points), len(points), address(offsets),
-                         len(offsets), address(its), len(its), *rule,
-                         address(told), len(told))
+        code: int = call(*words(points, offsets, *divided, about[start:end]),
+                         *rule, *words(out[start:end]))
         return code
 
-    for code in run_parts(tell, parts):
-        _raise(code, points, offsets, about)
+    for code in run_parts(ask, parts):
+        _raise(code, given, about)
     return out
+
+
+def _ask(name: str, contours: Any, about: Any, rule: Sequence[int],
+         dtype: Any, threads: int) -> Any:
+    """The same of contours and points that aren't tested."""
+    given = _given(contours)
+    about = _as_about(about, given.points)
+    return _ask_of(name, given, (), about, rule, dtype, threads)
+
+
+def find_holders(given: GivenPolygons, about: Array, rule: int,
+                 threads: int) -> npt.NDArray[np.intp]:
+    """The first polygon that holds each of the points, or -1."""
+    # Where there is none, the call writes the number whose bits are all 1.
+    holders: npt.NDArray[np.intp] = _ask_of(
+        "locate_in_shapes", given.rings, (given.parts,), about, (rule,),
+        np.intp, threads)
+    return holders
 
 
 def winding_numbers(contours: Contours[Int], about: npt.NDArray[Int], *,
@@ -127,7 +155,7 @@ def winding_numbers(contours: Contours[Int], about: npt.NDArray[Int], *,
     contours : array of shape (n, 2), int16, int32 or int64, or Rings
         One contour, as for :func:`simplify`, or many, as ``Rings`` or a
         tuple (points, offsets): of these the winding numbers are added up,
-        so that the rings of a polygon tell what its fill rule asks for.
+        so that the rings of a polygon give what its fill rule asks for.
     about : array of shape (m, 2), of the same dtype
         The points.
     threads : int
@@ -142,8 +170,8 @@ def winding_numbers(contours: Contours[Int], about: npt.NDArray[Int], *,
     ------
     UnsafePointError
         One of ``about`` isn't safe (then ``ring`` and ``point`` are None),
-        or a point of a contour (they tell which; ``ring`` is 0 where one
-        contour is given).
+        or a point of a contour (the message says which; ``ring`` is 0 where
+        one contour is given).
     OffsetsError
         The offsets of the rings don't divide their points.
     TypeError
@@ -167,7 +195,7 @@ def winding_numbers(contours: Contours[Int], about: npt.NDArray[Int], *,
     >>> winding_numbers(both, np.array([(1, 1), (4, 4), (9, 9)])).tolist()
     [1, 0, 0]
     """
-    numbers: npt.NDArray[np.intp] = _tell(
+    numbers: npt.NDArray[np.intp] = _ask(
         "windings", contours, about, (), np.intp, threads)
     return numbers
 
@@ -209,7 +237,7 @@ def contains_points(contours: Contours[Int], about: npt.NDArray[Int], *,
     >>> contains_points(star, points, rule="nonzero").tolist()
     [True, True, False]
     """
-    filled: npt.NDArray[np.bool_] = _tell(
+    filled: npt.NDArray[np.bool_] = _ask(
         "contains_points", contours, about, (as_rule(rule),), np.bool_,
         threads)
     return filled
@@ -244,6 +272,77 @@ def locate(contours: Contours[Int], about: npt.NDArray[Int], *,
     >>> locate(square, np.array([(4, 4), (8, 3), (0, 0), (9, 9)])).tolist()
     [1, 0, 0, -1]
     """
-    located: npt.NDArray[np.int8] = _tell(
+    located: npt.NDArray[np.int8] = _ask(
         "locate", contours, about, (as_rule(rule),), np.int8, threads)
     return located
+
+
+def locate_in_polygons(points: npt.NDArray[Int], ring_offsets: npt.ArrayLike,
+                       polygon_offsets: npt.ArrayLike,
+                       about: npt.NDArray[Int], *, rule: FillRule = "evenodd",
+                       threads: int = 1) -> npt.NDArray[np.intp]:
+    """Return the first polygon that holds each of many points.
+
+    A polygon holds what a fill rule fills by the winding number of its rings
+    together. One call takes all polygons: a point is compared with the
+    bounding box of each, and with the edges of those that it may lie in.
+
+    Parameters
+    ----------
+    points : array of shape (n, 2), int16, int32 or int64
+    ring_offsets : array of shape (m + 1,), of whole numbers
+    polygon_offsets : array of shape (p + 1,), of whole numbers
+        As for :func:`simplify_polygons`.
+    about : array of shape (q, 2), of the same dtype
+        The points that are looked for.
+    rule : "evenodd", "nonzero", "positive" or "negative"
+        As for :func:`contains_points`. By "evenodd", the default, a hole
+        may run in either direction.
+    threads : int
+        How many threads take a part of ``about`` each, at most as many as
+        there are processors. The answer is the same.
+
+    Returns
+    -------
+    array of shape (q,) and dtype intp
+        For each of ``about`` the index of the first polygon that holds it,
+        from 0 on, and -1 where none does. Of points on an edge some are
+        held, as :func:`contains_points` has it: where polygons tile an area,
+        one of them holds each point within it.
+
+    Raises
+    ------
+    UnsafePointError
+        One of ``about`` isn't safe (then ``ring`` and ``point`` are None),
+        or a point of a polygon isn't.
+    OffsetsError
+        As :func:`simplify_polygons` does.
+    TypeError
+        As :func:`simplify_polygons` does, and where ``about`` has another
+        dtype.
+    ValueError
+        A shape is another one, there is no such rule, or ``threads`` is
+        below 1.
+    MemoryError
+        An allocation failed, or a thread could not be started.
+
+    See also
+    --------
+    i_shape.io.locate_in_features : of features in floats.
+
+    Examples
+    --------
+    Two squares side by side, the first with a hole.
+
+    >>> import numpy as np
+    >>> from i_shape import locate_in_polygons
+    >>> points = np.array([(0, 0), (8, 0), (8, 8), (0, 8),
+    ...                    (2, 2), (2, 4), (4, 4), (4, 2),
+    ...                    (8, 0), (16, 0), (16, 8), (8, 8)])
+    >>> about = np.array([(1, 1), (3, 3), (8, 1), (20, 1)])
+    >>> locate_in_polygons(points, [0, 4, 8, 12], [0, 2, 3], about).tolist()
+    [0, -1, 1, -1]
+    """
+    given = given_polygons(points, ring_offsets, polygon_offsets)
+    about = _as_about(about, given.rings.points)
+    return find_holders(given, about, as_rule(rule), threads)

@@ -22,7 +22,7 @@ def _way_of(error: OtherGeometryError) -> str:
 
 
 class Record(NamedTuple):
-    """A feature of a text, whose coordinates stand in what is about them.
+    """A feature of a text, whose coordinates lie within what is about them.
 
     Where there are none to be replaced, all is before them. ``geometry`` is
     what the format's reader takes, and None where there is none. ``fid``

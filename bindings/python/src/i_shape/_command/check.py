@@ -6,7 +6,8 @@ import json
 from pathlib import Path
 from typing import Any, Iterator, Optional
 
-from ..io import FeatureFault, Grid, features_to_grid
+from ..io import FeatureFault, Grid
+from ..io._grid import rounded_features
 from ..io._validity import faults_of
 from .files import Pair
 from .report import Told
@@ -40,7 +41,7 @@ def run(pair: Pair, grid: Grid, to: Optional[Path]) -> Told:
     points: list[dict[str, Any]] = []
     for block in pair.blocks():
         with block.naming():
-            whole = features_to_grid(block.features, grid)
+            whole = rounded_features(block.features, grid)
         count += len(whole.are_multi)
         for record, fault in zip(block.polygon_records,
                                  faults_of(block.features, whole)):

@@ -10,7 +10,9 @@ from typing import Iterator, Optional
 import numpy as np
 
 from .._library import Array
-from ..io import Features, Grid, close_rings
+from ..io import Grid
+from ..io._closing import closed
+from ..io._features import Checked
 from ..io._geojson import coordinates_of
 
 _DIGITS = 15  # that floats tell apart
@@ -70,23 +72,23 @@ def _point_texts(points: Array, places: int) -> Optional[tuple[bytes, Array]]:
     return shown.tobytes(), np.concatenate([[0], np.cumsum(lengths)])
 
 
-def coordinate_texts(features: Features,
+def coordinate_texts(features: Checked,
                      places: Optional[int]) -> Iterator[str]:
     """The coordinates of each feature as GeoJSON writes them."""
     (points, ends, parts), offsets, are_multi = features
-    closed = close_rings(points, ends)
-    found = None if places is None else _point_texts(closed.points, places)
+    rings = closed(points, ends)
+    found = None if places is None else _point_texts(rings.points, places)
     if found is None:
         # What Python shows of lists of floats is JSON.
         yield from map(repr, coordinates_of(features))
         return
     whole, places_of_points = found
-    at = places_of_points[closed.offsets].tolist()
+    at = places_of_points[rings.offsets].tolist()
     text = whole.decode("ascii")
-    rings = [f"[[{text[start:end - 4]}]]" if start < end else "[]"
+    its_rings = [f"[[{text[start:end - 4]}]]" if start < end else "[]"
              for start, end in zip(at, at[1:])]
     part_ends, feature_ends = parts.tolist(), offsets.tolist()
-    polygons = [f"[{', '.join(rings[start:end])}]"
+    polygons = [f"[{', '.join(its_rings[start:end])}]"
                 for start, end in zip(part_ends, part_ends[1:])]
     for is_multi, start, end in zip(are_multi.tolist(), feature_ends,
                                     feature_ends[1:]):

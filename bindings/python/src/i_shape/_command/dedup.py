@@ -3,21 +3,24 @@
 from __future__ import annotations
 
 import hashlib
-from ..io import Grid, feature_keys, features_to_grid
+
+from ..io import Grid
+from ..io._cleaners import keys_of
+from ..io._grid import rounded_features
 from .files import Pair
 from .report import Told, kept_text
 
 
 def run(pair: Pair, grid: Grid, oriented: bool) -> Told:
-    """Leave out features that equal one before, and answer the report."""
+    """Leave out features that equal one before, and return the report."""
     firsts: dict[tuple[str, bytes], str] = {}
     count = kept = 0
     gone: list[str] = []
     for block in pair.blocks():
         with block.naming():
-            whole = features_to_grid(block.features, grid)
+            whole = rounded_features(block.features, grid)
         its: set[int] = set()
-        keys = feature_keys(whole, oriented=oriented)
+        keys = keys_of(whole, oriented)
         for place, (key, record) in enumerate(
                 zip(keys, block.polygon_records)):
             # A digest takes less memory than a key.

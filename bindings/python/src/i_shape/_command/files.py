@@ -29,7 +29,7 @@ Pair = Union[TextPair, GeoPackage]
 
 
 def format_of(path: Path) -> Optional[str]:
-    """The format that the end of a file's name tells."""
+    """The format that the end of a file's name stands for."""
     return LINES if path == STANDARD else FORMATS.get(path.suffix.lower())
 
 

@@ -21,7 +21,7 @@ FEATURE = '{"type": "Feature", "properties": null, "geometry": ', "}"
 
 
 def collection_frame(crs: Optional[str] = None) -> tuple[str, str]:
-    """What stands before the features of a new collection, and behind them.
+    """What comes before the features of a new collection, and behind them.
 
     A CRS is named as GDAL and QGIS name it, though RFC 7946 has no such
     member.
@@ -33,7 +33,7 @@ def collection_frame(crs: Optional[str] = None) -> tuple[str, str]:
 
 def _geometry_record(fid: int, geometry: Members, before: str = "",
                      behind: str = "", line: Optional[int] = None) -> Record:
-    """The record of a geometry in what stands around it."""
+    """The record of a geometry in what is around it."""
     if "coordinates" not in geometry:
         text = f"{before}{geometry.text()}{behind}"
         return Record(fid, geometry.plain(), text, line=line)
@@ -51,7 +51,7 @@ def _feature_record(fid: int, feature: Any,
     if not isinstance(feature, Members) or feature.value("type") != "Feature":
         if isinstance(feature, Members):
             feature = feature.plain()
-        raise FeatureError(f"a Feature is needed, not {short(feature)}")
+        raise FeatureError(f"expected a Feature, not {short(feature)}")
     geometry = feature.value("geometry")
     if not isinstance(geometry, Members):
         return Record(fid, geometry, feature.text(), line=line)
@@ -70,7 +70,7 @@ class _Plain(NamedTuple):
 def _plain(text: str, start: int, end: int, feature: Any) -> Optional[_Plain]:
     """The feature that a text stands for, if it is as most are.
 
-    The word of its coordinates stands there but once, and no letter is
+    The word of its coordinates is there but once, and no letter is
     escaped that a name could have, so that it is their name.
     """
     geometry = feature.get("geometry") if isinstance(feature, dict) else None
@@ -91,7 +91,7 @@ def _plain(text: str, start: int, end: int, feature: Any) -> Optional[_Plain]:
 
 
 def _feature_at(text: str, at: int) -> tuple[Any, int]:
-    """A feature, or what stands in its place, and where it ends."""
+    """A feature, or what is in its place, and where it ends."""
     start = skip(text, at)
     feature, end = scan(text, start)
     plain = _plain(text, start, end, feature)
@@ -109,7 +109,7 @@ def _opened_at(text: str, at: int) -> tuple[tuple[str, Optional[Member]], int]:
 class Document:
     """A document of GeoJSON, whose features are read one by one.
 
-    ``head``, which stands before the features, is known with the first one,
+    ``head``, which comes before the features, is known with the first one,
     and ``tail`` at the end. A lone geometry becomes a feature if it is told
     that features are needed.
     """
@@ -122,7 +122,7 @@ class Document:
     def records(self) -> Iterator[Record]:
         pieces = self._pieces
         if not pieces.take(is_next("{")):
-            raise FeatureError("an object of GeoJSON is needed, not"
+            raise FeatureError("expected an object of GeoJSON, not"
                                f" {short(pieces.take(value_at))}", 0)
         members, behind = Members(), Members()
         its = members
@@ -158,8 +158,8 @@ class Document:
                                f" {short(members.value('type'))}")
         if is_collection and not self.head:
             raise FeatureError(
-                f"features are {short(members.value('features'))}: a list is"
-                " needed", 0)
+                f"features are {short(members.value('features'))}, not a"
+                " list", 0)
 
     def _lone_record(self, members: Members) -> Record:
         """The record of a feature or a geometry that isn't in a list."""

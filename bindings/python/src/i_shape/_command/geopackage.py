@@ -18,6 +18,7 @@ import numpy as np
 
 from ..io import FeatureError, Features, _wkb, from_wkb, to_wkb
 from ..io._builder import Builder, short
+from ..io._features import Checked
 from .blocks import Block, in_blocks
 from .geojson import collection_frame
 from .progress import track
@@ -101,7 +102,7 @@ def _read(builder: Builder, row: Row) -> None:
         raise builder.feature_fault(
             f"{short(blob)} isn't a geometry of GeoPackage")
     if blob[3] & _EXTENDED:
-        raise builder.other("a Polygon or a MultiPolygon is needed, not a"
+        raise builder.other("expected a Polygon or a MultiPolygon, not a"
                             " geometry of an extension")
     srs = struct.unpack_from(_order(blob) + "i", blob, 4)[0]
     if srs != row.layer.srs:
@@ -174,7 +175,7 @@ def _is_same(wkb: bytes, new: bytes) -> bool:
                           and to_wkb(from_wkb([wkb]))[0] == new)
 
 
-def _changed(rows: Sequence[Row], left: Features,
+def _changed(rows: Sequence[Row], left: Checked,
              gone: Collection[int]) -> Iterator[tuple[bytes, int]]:
     """The new blob and the fid of each row that stays and changes."""
     are_full, boxes = _boxes(left)
@@ -294,7 +295,7 @@ class GeoPackage:
             rows = track(self._rows(layer), f"features of {layer.name}")
             yield from in_blocks(rows, _read, self._others, layer.name)
 
-    def write(self, block: Block, left: Optional[Features] = None,
+    def write(self, block: Block, left: Optional[Checked] = None,
               gone: Collection[int] = ()) -> None:
         """Note what is left of a block's features where it differs.
 
@@ -338,7 +339,7 @@ class GeoPackage:
                 " WHERE table_name = ?", (layer.name,))
 
     def _require_changed(self, layer: Layer) -> None:
-        """Refuse a row that isn't as written, as a trigger may change it."""
+        """Raise an error for a row that a trigger has changed."""
         fid, column = (f"row.{_quoted(name)}"
                        for name in (layer.fid, layer.column))
         with _naming(self._out, f"layer {layer.name!r}: "):
@@ -372,7 +373,7 @@ def _pragma(store: sqlite3.Connection, name: str) -> Any:
 
 
 def _bound_growth(store: sqlite3.Connection) -> None:
-    """Refuse to write very much more than there is, as triggers may."""
+    """Raise an error where triggers write very much more than there is."""
     times, more = _GROWTH
     most = (times * _pragma(store, "page_count")
             + more // _pragma(store, "page_size"))
@@ -405,7 +406,7 @@ class _Identity(NamedTuple):
         return cls(its.st_dev, its.st_ino)
 
     def require(self, path: Path) -> None:
-        """Refuse to write a file whose path no longer names it.
+        """Raise an error for a file whose path no longer names it.
 
         In WAL mode, SQLite doesn't ask, and its log would stay beside
         another file.
@@ -420,7 +421,7 @@ class _Identity(NamedTuple):
 
 
 def require_closed(out: Path) -> None:
-    """Refuse a new file where the logs of another are, which it would get."""
+    """Raise an error where the logs of another file are at the new one."""
     for end in ("-wal", "-shm", "-journal"):
         log = Path(os.path.realpath(out) + end)
         if log.exists() and (end != "-journal" or log.stat().st_size):

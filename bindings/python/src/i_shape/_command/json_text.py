@@ -30,7 +30,7 @@ class _NoNumberError(ValueError):
     """A word stands for a number, and isn't JSON."""
 
 
-def _refuse(word: str) -> NoReturn:
+def _raise_constant(word: str) -> NoReturn:
     raise _NoNumberError(word)
 
 
@@ -39,7 +39,7 @@ def _whole_number(text: str) -> Any:
 
 
 _decoder: Any = json.JSONDecoder(parse_int=_whole_number,
-                                 parse_constant=_refuse)
+                                 parse_constant=_raise_constant)
 _scan = _decoder.scan_once
 
 
@@ -131,7 +131,7 @@ def _strange_name(text: str, at: int) -> tuple[str, int, int]:
 def member_at(text: str, at: int) -> tuple[tuple[str, Member], int]:
     """A member, its name, and where it ends.
 
-    A geometry that is an object is told as :class:`Members`.
+    A geometry that is an object is given as :class:`Members`.
     """
     found = _NAME(text, at)
     if found:
@@ -207,7 +207,7 @@ def _constant_error(text: str, at: int, word: str) -> json.JSONDecodeError:
 
 
 def parsed(parse: Parse[Item], text: str, at: int) -> tuple[Item, int]:
-    """What a function answers, whose errors are those of JSON or a depth."""
+    """What a function returns, whose errors are those of JSON or a depth."""
     try:
         return parse(text, at)
     except _NoNumberError as error:

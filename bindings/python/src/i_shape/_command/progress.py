@@ -36,7 +36,7 @@ class Lines:
 
 
 def bar(stage: str, total: Optional[int] = None) -> Any:
-    """What tells of a stage: tqdm's where it is there."""
+    """What shows a stage: tqdm's where it is there."""
     try:
         from tqdm import tqdm
     except ImportError:
@@ -47,7 +47,7 @@ def bar(stage: str, total: Optional[int] = None) -> Any:
 
 def track(items: Iterable[Item], stage: str,
           total: Optional[int] = None) -> Iterator[Item]:
-    """The items, while the stage is told of."""
+    """The items, while the stage is shown."""
     with bar(stage, total) as shown:
         for item in items:
             yield item

@@ -4,7 +4,8 @@ from __future__ import annotations
 
 from typing import Collection, Iterator, Optional, TextIO
 
-from ..io import Features, _wkt
+from ..io import _wkt
+from ..io._features import Checked
 from ..io._geojson import add_geometry
 from .blocks import Block, Record, in_blocks
 from .decimals import coordinate_texts
@@ -54,7 +55,7 @@ class TextPair:
                          _wkt.read if self._is_wkt else add_geometry,
                          self._others)
 
-    def write(self, block: Block, left: Optional[Features] = None,
+    def write(self, block: Block, left: Optional[Checked] = None,
               gone: Collection[int] = ()) -> None:
         """Write the records of a block but for some features.
 
@@ -72,7 +73,7 @@ class TextPair:
             if place not in gone:
                 self._put(text)
 
-    def _texts(self, block: Block, left: Optional[Features]) -> Iterator[str]:
+    def _texts(self, block: Block, left: Optional[Checked]) -> Iterator[str]:
         """The whole text of each record that has polygons."""
         records = block.polygon_records
         if left is None:
@@ -95,7 +96,7 @@ class TextPair:
             self._out.write(text.replace("\n", " ") + "\n")
 
     def _frame(self) -> tuple[str, str]:
-        """What stands before the features, and behind them."""
+        """What comes before the features, and behind them."""
         if self._document:
             return self._document.head, self._document.tail
         return collection_frame()
@@ -106,7 +107,7 @@ class TextPair:
         return (head, tail) if head else collection_frame()
 
     def end(self) -> None:
-        """Write what stands behind the features.
+        """Write what comes behind the features.
 
         Where the lone feature of a document is dropped, an empty collection
         is left.

@@ -1,9 +1,9 @@
 """Polygons in and out: shapely, GeoJSON, WKT, WKB, and floats onto a grid.
 
-Each reader answers :class:`Features`: the package's own polygons, in floats
+Each reader returns :class:`Features`: the package's own polygons, in floats
 and with open rings, and which of them each feature has. A :class:`Grid`
 makes whole numbers of them for the calls of :mod:`i_shape`, and floats of
-the answers. Only the calls for shapely and geopandas import these.
+the results. Only the calls for shapely and geopandas import these.
 """
 
 from ._cleaners import (canonical_features, despike_features, feature_keys,
@@ -16,6 +16,7 @@ from ._geoseries import (canonical_geoseries, despike_geoseries,
                          simplify_geoseries)
 from ._grid import (Grid, features_from_grid, features_to_grid, from_grid,
                     to_grid)
+from ._locating import locate_in_features
 from ._shapely import from_shapely, to_shapely
 from ._validity import FeatureFault, explain_validity
 from ._wkb import from_wkb, to_wkb
@@ -28,7 +29,7 @@ __all__ = [
     "feature_keys",
     "features_from_grid", "features_of", "features_to_grid", "from_geojson",
     "from_grid", "from_shapely", "from_wkb", "from_wkt",
-    "has_no_spikes_features", "is_simple_features", "narrow_offsets",
-    "open_rings", "simplify_features", "simplify_geoseries", "to_geojson",
+    "has_no_spikes_features", "is_simple_features", "locate_in_features",
+    "narrow_offsets", "open_rings", "simplify_features", "simplify_geoseries", "to_geojson",
     "to_grid", "to_shapely", "to_wkb", "to_wkt",
 ]

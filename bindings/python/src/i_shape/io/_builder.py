@@ -11,7 +11,8 @@ from typing import Any, Iterable, Optional
 import numpy as np
 
 from .._polygons import Polygons
-from ._features import (FeatureError, Features, OtherGeometryError,
+from ._closing import opened
+from ._features import (Checked, FeatureError, Features, OtherGeometryError,
                         as_finite)
 
 
@@ -34,7 +35,7 @@ class NumberText:
 
 
 class _Short(Repr):
-    """Short texts of values, also where Python refuses to show a number."""
+    """Short texts of values, also of a number that Python doesn't show."""
 
     def repr_int(self, number: int, level: int) -> str:
         try:
@@ -53,7 +54,11 @@ def is_list(value: Any) -> bool:
 
 
 class Builder:
-    """Features that are built up ring by ring."""
+    """Features that are built up ring by ring.
+
+    Where a ring repeats its first point at its end, that one is left out at
+    last.
+    """
 
     def __init__(self) -> None:
         self._numbers = array("d")
@@ -63,10 +68,7 @@ class Builder:
         self._are_multi = array("b")
 
     def add_ring(self, numbers: Iterable[float]) -> None:
-        """Add a ring by its coordinates, x and y in turn.
-
-        If its first point stands at its end again, that one is left out.
-        """
+        """Add a ring by its coordinates, x and y in turn."""
         self._numbers.extend(numbers)
         self._end_ring()
 
@@ -81,16 +83,12 @@ class Builder:
         self._end_ring()
 
     def _end_ring(self) -> None:
-        start = 2 * self._rings[-1]
-        if (len(self._numbers) - start > 2
-                and self._numbers[start:start + 2] == self._numbers[-2:]):
-            del self._numbers[-2:]
         self._rings.append(len(self._numbers) // 2)
 
     def add_positions(self, ring: Any) -> None:
         """Add a ring by a list of positions, which are tested."""
         if not is_list(ring):
-            raise self.fault("a list of positions is needed, not"
+            raise self.fault("expected a list of positions, not"
                              f" {short(ring)}")
         try:
             coordinates = list(chain.from_iterable(ring))
@@ -110,7 +108,7 @@ class Builder:
             if not is_list(position) or len(position) != 2:
                 count = len(position) if is_list(position) else "no"
                 raise self.fault(f"the position {short(position)} has {count}"
-                                 " coordinates: 2 are needed", place,
+                                 " coordinates, not 2", place,
                                  is_other=count in (3, 4))
             for number in position:
                 self._require_number(number, place)
@@ -165,12 +163,11 @@ class Builder:
         del self._rings[self._polygons[-1] + 1:]
         del self._numbers[2 * self._rings[-1]:]
 
-    def features(self) -> Features:
+    def features(self) -> Checked:
         """The features, whose coordinates are tested to be finite."""
-        polygons = Polygons(
-            np.array(self._numbers, np.float64).reshape(-1, 2),
-            np.array(self._rings, np.int64),
-            np.array(self._polygons, np.int64))
+        rings = opened(np.array(self._numbers, np.float64).reshape(-1, 2),
+                       np.array(self._rings, np.int64))
+        polygons = Polygons(*rings, np.array(self._polygons, np.int64))
         return as_finite(Features(polygons,
                                   np.array(self._features, np.int64),
                                   np.array(self._are_multi, np.bool_)))

@@ -2,27 +2,24 @@
 
 from __future__ import annotations
 
-from functools import partial
 from typing import Callable, NamedTuple
 
 import numpy as np
 import numpy.typing as npt
 
-from .._keys import canonical_keys
+from .._keys import as_objects, keys_of_polygons
 from .._library import Array
-from .._polygons import (Polygons, canonical_polygons, left_polygons,
+from .._polygons import (GivenPolygons, Polygons, clean_whole, left_polygons,
                          which_left)
-from .._rings import Rings, canonical_rings, despike_rings, simplify_rings
+from .._rings import GivenRings, Rings, canonical_cleaner, clean_rings
 from ._collapse import check_collapsed, require_uncollapsed
-from ._features import Features, as_features
-
-Cleaner = Callable[..., Rings]
+from ._features import Checked, Features, as_features, rings_of
 
 
 class Cleaned(NamedTuple):
     """What is left of features, and which of their rings collapsed."""
 
-    features: Features
+    features: Checked
     collapsed: Array
 
 
@@ -30,20 +27,19 @@ def _ends(counts: Array) -> Array:
     return np.concatenate([np.zeros(1, np.int64), np.cumsum(counts)])
 
 
-def clean(features: Features, cleaner: Cleaner, threads: int = 1) -> Cleaned:
+def clean(features: Checked, cleaner: str, threads: int = 1) -> Cleaned:
     """Clean the rings, and leave out what collapses."""
-    features = as_features(features)
-    points, ends, parts = features.polygons
-    rings = cleaner(points, ends, threads=threads)
-    left = which_left(rings.offsets, parts)
+    rings = clean_rings(cleaner, rings_of(features), threads)
+    left = which_left(rings.offsets, features.polygons.polygon_offsets)
     return Cleaned(
-        Features(left_polygons(rings, left),
-                 np.searchsorted(left.polygons, features.feature_offsets),
-                 features.are_multi),
+        Checked(Features(left_polygons(rings, left),
+                         np.searchsorted(left.polygons,
+                                         features.feature_offsets),
+                         features.are_multi)),
         np.diff(rings.offsets) == 0)
 
 
-def _in_order(features: Features, oriented: bool) -> Features:
+def _in_order(features: Checked, oriented: bool) -> Checked:
     """Put the rings and polygons of each feature in canonical order.
 
     Their rings are canonical already, so that only a feature with several
@@ -56,24 +52,23 @@ def _in_order(features: Features, oriented: bool) -> Features:
     for place in np.flatnonzero(several).tolist():
         first, last = offsets[place], offsets[place + 1]
         its_ends = ends[parts[first]:parts[last] + 1]
-        form = canonical_polygons(points, its_ends,
-                                  parts[first:last + 1] - parts[first],
-                                  oriented=oriented)
+        form = clean_whole(canonical_cleaner(oriented), GivenPolygons(
+            GivenRings(points, its_ends),
+            parts[first:last + 1] - parts[first]))
         points[its_ends[0]:its_ends[-1]] = form.points
         ends[parts[first]:parts[last] + 1] = form.ring_offsets + its_ends[0]
         parts[first:last + 1] = form.polygon_offsets + parts[first]
-    return features._replace(polygons=Polygons(points, ends, parts))
+    return Checked(features._replace(polygons=Polygons(points, ends, parts)))
 
 
-def forms(features: Features, oriented: bool, threads: int = 1) -> Cleaned:
+def forms(features: Checked, oriented: bool, threads: int = 1) -> Cleaned:
     """The canonical form of each feature, and which rings collapsed."""
-    cleaned = clean(features, partial(canonical_rings, oriented=oriented),
-                    threads)
+    cleaned = clean(features, canonical_cleaner(oriented), threads)
     return cleaned._replace(features=_in_order(cleaned.features, oriented))
 
 
 def _left(features: Features, collapsed: str,
-          cleaned: Callable[[Features], Cleaned]) -> Features:
+          cleaned: Callable[[Checked], Cleaned]) -> Features:
     """What is left of features, or an error where that is nothing of one."""
     check_collapsed(collapsed)
     features = as_features(features)
@@ -81,6 +76,19 @@ def _left(features: Features, collapsed: str,
     if collapsed == "raise":
         require_uncollapsed(features, left)
     return left
+
+
+def keys_of(features: Checked, oriented: bool,
+            threads: int = 1) -> npt.NDArray[np.object_]:
+    """The key of each feature."""
+    (points, rings, parts), offsets, _ = forms(
+        features, oriented, threads).features
+    keys = keys_of_polygons(Rings(points, rings), parts)
+    for place in np.flatnonzero(np.diff(parts) == 0).tolist():
+        keys[place] = b""  # a polygon without rings doesn't count
+    ends = offsets.tolist()
+    return as_objects([b"".join(keys[start:end])
+                       for start, end in zip(ends, ends[1:])])
 
 
 def simplify_features(features: Features, *, collapsed: str = "raise",
@@ -94,7 +102,7 @@ def simplify_features(features: Features, *, collapsed: str = "raise",
     Parameters
     ----------
     features : Features
-        Of whole numbers, as :func:`features_to_grid` answers them.
+        Of whole numbers, as :func:`features_to_grid` returns them.
     collapsed : "raise" or "empty"
         What becomes of a feature that has points and of which nothing is
         left: an error, as where the step was given in another unit than the
@@ -130,7 +138,7 @@ def simplify_features(features: Features, *, collapsed: str = "raise",
     ['POLYGON ((0 0, 4 0, 4 4, 0 0))', 'POLYGON EMPTY']
     """
     return _left(features, collapsed, lambda its: clean(
-        its, simplify_rings, threads))
+        its, "simplify", threads))
 
 
 def despike_features(features: Features, *, collapsed: str = "raise",
@@ -170,7 +178,7 @@ def despike_features(features: Features, *, collapsed: str = "raise",
     ['POLYGON ((0 0, 2 0, 4 0, 4 4, 0 0))']
     """
     return _left(features, collapsed, lambda its: clean(
-        its, despike_rings, threads))
+        its, "despike", threads))
 
 
 def canonical_features(features: Features, *, collapsed: str = "raise",
@@ -178,7 +186,7 @@ def canonical_features(features: Features, *, collapsed: str = "raise",
     """Return the canonical form of each feature.
 
     It is the form of the list of its polygons, as
-    :func:`i_shape.canonical_polygons` answers it.
+    :func:`i_shape.canonical_polygons` returns it.
 
     Parameters
     ----------
@@ -219,7 +227,7 @@ def feature_keys(features: Features, *, oriented: bool = False,
                  threads: int = 1) -> npt.NDArray[np.object_]:
     """Return a key of each feature.
 
-    Two keys are equal where :func:`canonical_features` answers equal lists
+    Two keys are equal where :func:`canonical_features` returns equal lists
     of polygons, of which those without rings don't count; a polygon equals
     a multipolygon that has just this one. So a dictionary or a table of a
     database finds equal features among many.
@@ -227,7 +235,7 @@ def feature_keys(features: Features, *, oriented: bool = False,
     Parameters
     ----------
     features : Features
-        Of whole numbers, as :func:`features_to_grid` answers them.
+        Of whole numbers, as :func:`features_to_grid` returns them.
     oriented : bool
         True reads no ring backwards, as for :func:`canonical_features`.
     threads : int
@@ -256,11 +264,4 @@ def feature_keys(features: Features, *, oriented: bool = False,
     >>> one == other
     True
     """
-    left = forms(features, oriented, threads).features
-    keys = canonical_keys(*left.polygons, oriented=oriented, threads=threads)
-    keys[np.diff(left.polygons.polygon_offsets) == 0] = b""
-    ends = left.feature_offsets.tolist()
-    joined = np.empty(len(ends) - 1, object)
-    joined[:] = [b"".join(keys[start:end])
-                 for start, end in zip(ends, ends[1:])]
-    return joined
+    return keys_of(as_features(features), oriented, threads)

@@ -8,7 +8,7 @@ import numpy as np
 import numpy.typing as npt
 
 from .._errors import OffsetsError
-from .._library import as_offsets
+from .._library import Array, as_offsets
 from .._rings import Rings
 from ._features import as_rings
 
@@ -47,15 +47,19 @@ def open_rings(points: npt.ArrayLike, offsets: npt.ArrayLike) -> Rings:
     >>> rings.points.tolist(), rings.offsets.tolist()
     ([[0, 0], [4, 0], [4, 4]], [0, 3])
     """
-    points, offsets = as_rings(points, offsets)
+    return opened(*as_rings(points, offsets))
+
+
+def opened(points: Array, offsets: Array) -> Rings:
+    """The rings, whose offsets are tested and lead from 0 on."""
     starts, ends = offsets[:-1], offsets[1:]
     long = np.flatnonzero(ends - starts > 1)
     repeats = (points[starts[long]] == points[ends[long] - 1]).all(axis=1)
-    closed = np.zeros(len(starts), np.bool_)
-    closed[long[repeats]] = True
+    are_closed = np.zeros(len(starts), np.bool_)
+    are_closed[long[repeats]] = True
     left = np.ones(len(points), np.bool_)
-    left[ends[closed] - 1] = False
-    counts = np.concatenate([[0], np.cumsum(closed)])
+    left[ends[are_closed] - 1] = False
+    counts = np.concatenate([[0], np.cumsum(are_closed)])
     return Rings(points[left], offsets - counts)
 
 
@@ -87,18 +91,22 @@ def close_rings(points: npt.ArrayLike, offsets: npt.ArrayLike) -> Rings:
     >>> rings.points.tolist(), rings.offsets.tolist()
     ([[0, 0], [4, 0], [4, 4], [0, 0]], [0, 4])
     """
-    points, offsets = as_rings(points, offsets)
+    return closed(*as_rings(points, offsets))
+
+
+def closed(points: Array, offsets: Array) -> Rings:
+    """The rings, whose offsets are tested and lead from 0 on."""
     has_points = offsets[1:] > offsets[:-1]
     firsts = points[offsets[:-1][has_points]]
-    closed = np.insert(points, offsets[1:][has_points], firsts, axis=0)
+    longer = np.insert(points, offsets[1:][has_points], firsts, axis=0)
     counts = np.concatenate([[0], np.cumsum(has_points)])
-    return Rings(closed, offsets + counts)
+    return Rings(longer, offsets + counts)
 
 
 def narrow_offsets(offsets: npt.ArrayLike) -> npt.NDArray[np.int32]:
     """Return offsets of 32 bits, as Arrow's lists have them.
 
-    The calls take offsets of any width; their answers have 64 bits.
+    The calls take offsets of any width; their results have 64 bits.
 
     Parameters
     ----------

@@ -35,8 +35,8 @@ def collapse_text(count: int, total: int, what: str, words: str) -> str:
 def check_collapsed(collapsed: str) -> None:
     """Test the word that says what becomes of features that collapse."""
     if collapsed not in ("raise", "empty"):
-        raise ValueError(f"collapsed is {short(collapsed)}: raise or empty is"
-                         " needed")
+        raise ValueError(f"collapsed is {short(collapsed)}, neither raise nor"
+                         " empty")
 
 
 def require_uncollapsed(before: Features, after: Features,

@@ -2,22 +2,21 @@
 
 from __future__ import annotations
 
-from typing import Any, Callable
-
 import numpy as np
 import numpy.typing as npt
 
-from .._measures import has_no_spikes_rings, is_simple_rings
-from ._features import Features, as_features
+from .._measures import test_rings
+from ._features import Checked, Features, as_features, rings_of
 
 
-def _hold(features: Features, test: Callable[..., Any],
+def _hold(features: Checked, test: str,
           threads: int) -> npt.NDArray[np.bool_]:
     """Of which features a test holds of each ring."""
-    (points, ends, parts), offsets, _ = as_features(features)
-    failed = np.zeros(len(ends), np.int64)
-    np.cumsum(~test(points, ends, threads=threads), out=failed[1:])
-    bounds = failed[parts[offsets]]
+    rings = rings_of(features)
+    failed = np.zeros(len(rings.offsets), np.int64)
+    np.cumsum(~test_rings(test, rings, threads), out=failed[1:])
+    parts = features.polygons.polygon_offsets
+    bounds = failed[parts[features.feature_offsets]]
     hold: npt.NDArray[np.bool_] = bounds[:-1] == bounds[1:]
     return hold
 
@@ -34,7 +33,7 @@ def has_no_spikes_features(features: Features, *,
     Parameters
     ----------
     features : Features
-        Of whole numbers, as :func:`features_to_grid` answers them.
+        Of whole numbers, as :func:`features_to_grid` returns them.
     threads : int
         As for :func:`i_shape.simplify_rings`.
 
@@ -59,7 +58,7 @@ def has_no_spikes_features(features: Features, *,
     >>> has_no_spikes_features(features_to_grid(features, Grid(1))).tolist()
     [True, False]
     """
-    return _hold(features, has_no_spikes_rings, threads)
+    return _hold(as_features(features), "has_no_spikes", threads)
 
 
 def is_simple_features(features: Features, *,
@@ -96,4 +95,4 @@ def is_simple_features(features: Features, *,
     >>> is_simple_features(features_to_grid(features, Grid(1))).tolist()
     [True, False]
     """
-    return _hold(features, is_simple_rings, threads)
+    return _hold(as_features(features), "is_simple", threads)

@@ -3,19 +3,20 @@
 from __future__ import annotations
 
 import operator
-from typing import Any, NamedTuple, Optional, Tuple
+from typing import Any, NamedTuple, NewType, Optional, Tuple
 
 import numpy as np
 import numpy.typing as npt
 
-from .._library import Array, as_offsets, check_offsets
+from .._library import Array, as_offsets, as_points, check_offsets
 from .._polygons import Polygons, Triple
+from .._rings import GivenRings
 
 
 class FeatureError(ValueError):
     """A feature can't be read, rounded or written.
 
-    Nothing has been answered, and nothing is left half written.
+    Nothing has been returned, and nothing is left half written.
 
     Attributes
     ----------
@@ -115,7 +116,7 @@ class Features(NamedTuple):
         return self._replace(polygons=self.polygons._replace(points=points))
 
     def place(self, row: int) -> Place:
-        """Return where the point in a row of ``polygons.points`` stands.
+        """Return where the point in a row of ``polygons.points`` is.
 
         Parameters
         ----------
@@ -160,16 +161,30 @@ class Features(NamedTuple):
         return (*_parted(self.feature_offsets, polygon, "polygon"), its_ring)
 
 
-def as_finite(features: Features) -> Features:
-    """The features, or an error that names the first infinite point."""
+# Features whose arrays are tested: what a reader has made, what a caller gave
+# once `as_features` has taken it, and what is made of these. Functions that
+# take them test nothing again.
+Checked = NewType("Checked", Features)
+
+
+def rings_of(features: Checked) -> GivenRings:
+    """The rings of features of whole numbers, as the cleaners take them."""
+    points, ends, _ = features.polygons
+    return GivenRings(as_points(points), ends)
+
+
+def as_finite(features: Features) -> Checked:
+    """The features, or an error that names the first infinite point.
+
+    Their offsets are those that a reader has made.
+    """
     points = features.polygons.points
-    finite = np.isfinite(points)
-    if not finite.all():
-        row = int(finite.all(axis=1).argmin())
+    if points.dtype.kind == "f" and not np.isfinite(points).all():
+        row = int(np.isfinite(points).all(axis=1).argmin())
         x, y = points[row].tolist()
         raise FeatureError(f"the point is ({x}, {y}), and not finite",
                            *features.place(row))
-    return features
+    return Checked(features)
 
 
 def as_plane_points(points: Any) -> Array:
@@ -180,10 +195,10 @@ def as_plane_points(points: Any) -> Array:
     if not found.size and not isinstance(points, np.ndarray):
         found = np.empty((0, 2))
     if found.dtype.kind not in "iuf":
-        raise TypeError(f"points have dtype {found.dtype}: whole numbers or"
-                        " floats are needed")
+        raise TypeError(f"points have dtype {found.dtype}, not one of whole"
+                        " numbers or floats")
     if found.ndim != 2 or found.shape[1] != 2:
-        raise ValueError(f"points have shape {found.shape}: (n, 2) is needed")
+        raise ValueError(f"points have shape {found.shape}, not (n, 2)")
     return found
 
 
@@ -202,7 +217,7 @@ def as_rings(points: Any, offsets: Any) -> tuple[Array, Array]:
     return points[start:end], offsets - start
 
 
-def as_features(features: Any) -> Features:
+def as_features(features: Any) -> Checked:
     """The features, tested, with offsets from 0 on and nothing besides."""
     (points, rings, parts), offsets, are_multi = features
     points = as_plane_points(points)
@@ -217,7 +232,7 @@ def as_features(features: Any) -> Features:
         multi = multi.astype(np.bool_)  # of nothing numpy makes floats
     if multi.dtype != np.bool_ or multi.shape != (len(offsets) - 1,):
         raise ValueError(f"are_multi has dtype {multi.dtype} and shape"
-                         f" {multi.shape}: one bool a feature is needed")
+                         f" {multi.shape}, not one bool a feature")
     many = ~multi & (np.diff(offsets) > 1)
     if many.any():
         raise FeatureError("it has several polygons, and isn't said to be a"

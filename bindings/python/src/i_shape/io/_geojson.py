@@ -18,7 +18,7 @@ def _geometries_of(document: Any) -> list[Any]:
     """The geometries of a document, and None where a feature has none."""
     if not isinstance(document, Mapping):
         raise FeatureError(
-            f"an object of GeoJSON is needed, not {short(document)}", 0)
+            f"expected an object of GeoJSON, not {short(document)}", 0)
     kind = document.get("type")
     if kind == "Feature":
         return [document.get("geometry")]
@@ -26,19 +26,19 @@ def _geometries_of(document: Any) -> list[Any]:
         return [document]
     features: Any = document.get("features")
     if not is_list(features):
-        raise FeatureError(f"features are {short(features)}: a list is"
-                           " needed", 0)
+        raise FeatureError(f"features are {short(features)}, not a list",
+                           0)
     for place, feature in enumerate(features):
         if (not isinstance(feature, Mapping)
                 or feature.get("type") != "Feature"):
-            raise FeatureError(f"a Feature is needed, not {short(feature)}",
+            raise FeatureError(f"expected a Feature, not {short(feature)}",
                                place)
     return [feature.get("geometry") for feature in features]
 
 
 def _add_polygon(builder: Builder, rings: Any) -> None:
     if not is_list(rings):
-        raise builder.fault(f"a list of rings is needed, not {short(rings)}",
+        raise builder.fault(f"expected a list of rings, not {short(rings)}",
                             is_in_ring=False)
     for ring in rings:
         builder.add_positions(ring)
@@ -50,7 +50,7 @@ def _is_multi(geometry: Any, feature: int) -> bool:
     if not isinstance(kind, str) or kind not in _ARE_MULTI:
         is_other = isinstance(kind, str) and kind in _OTHERS
         error = OtherGeometryError if is_other else FeatureError
-        raise error("a Polygon or a MultiPolygon is needed, not "
+        raise error("expected a Polygon or a MultiPolygon, not "
                     + (short(kind) if kind else short(geometry)), feature)
     return _ARE_MULTI[kind]
 
@@ -64,7 +64,7 @@ def add_geometry(builder: Builder, geometry: Any) -> None:
     coordinates = geometry.get("coordinates")
     if not is_list(coordinates):
         raise builder.feature_fault(
-            f"coordinates are {short(coordinates)}: a list is needed")
+            f"coordinates are {short(coordinates)}, not a list")
     if is_multi:
         for rings in coordinates:
             _add_polygon(builder, rings)
@@ -80,7 +80,7 @@ def from_geojson(document: Mapping[str, Any]) -> Features:
     ----------
     document : mapping
         A FeatureCollection, a Feature, a Polygon or a MultiPolygon, as
-        ``json.load`` answers it, or the ``__geo_interface__`` of an object.
+        ``json.load`` returns it, or the ``__geo_interface__`` of an object.
         Rings should be closed, as the format has it; one that isn't is
         taken for open. A feature whose geometry is null has no polygons.
 

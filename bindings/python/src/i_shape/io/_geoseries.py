@@ -10,27 +10,25 @@ import numpy as np
 
 from .._library import Array
 from ._builder import short
-from ._cleaners import (canonical_features, despike_features,
-                        simplify_features)
+from ._cleaners import Cleaned, clean, forms
 from ._collapse import check_collapsed, require_uncollapsed
-from ._features import FeatureError, Features
-from ._grid import Grid, features_from_grid, features_to_grid
-from ._shapely import fault_of, from_shapely, to_shapely
+from ._features import Checked, FeatureError
+from ._grid import Grid, floats_of, rounded_features
+from ._shapely import fault_of, geometries_of, read_geometries
 
 
 def require_series(series: Any) -> None:
     """Raise an error for what is no GeoSeries."""
     import geopandas
     if not isinstance(series, geopandas.GeoSeries):
-        raise TypeError("a GeoSeries is needed, as frame.geometry, not a"
+        raise TypeError("expected a GeoSeries, as frame.geometry, not a"
                         f" {type(series).__name__}")
 
 
 def polygon_places(geometries: Any, others: str) -> Array:
     """Which of the geometries are polygons; None is none of them."""
     if others not in ("raise", "keep"):
-        raise ValueError(f"others is {short(others)}: raise or keep is"
-                         " needed")
+        raise ValueError(f"others is {short(others)}, neither raise nor keep")
     faults = ["" if geometry is None else fault_of(geometry)
               for geometry in geometries]
     if others == "raise":
@@ -51,7 +49,7 @@ def naming(places: Array) -> Iterator[None]:
 
 
 def _cleaned(series: Any, step: Union[float, Grid],
-             cleaner: Callable[..., Features], collapsed: str,
+             cleaner: Callable[[Checked], Cleaned], collapsed: str,
              others: str) -> Any:
     import geopandas
     require_series(series)
@@ -60,12 +58,12 @@ def _cleaned(series: Any, step: Union[float, Grid],
     answer = series.array.copy()
     places = polygon_places(answer, others)
     with naming(places):
-        whole = features_to_grid(from_shapely(answer[places]), grid)
-        left = cleaner(whole, collapsed="empty")
+        whole = rounded_features(read_geometries(answer[places]), grid)
+        left = cleaner(whole).features
         if collapsed == "raise":
             require_uncollapsed(whole, left, "polygons")
-        left = features_from_grid(left, grid)
-    answer[places] = geopandas.GeoSeries(to_shapely(left),
+        left = floats_of(left, grid)
+    answer[places] = geopandas.GeoSeries(geometries_of(left),
                                          crs=series.crs).array
     return geopandas.GeoSeries(answer, index=series.index, name=series.name)
 
@@ -121,7 +119,7 @@ def simplify_geoseries(series: Any, step: Union[float, Grid], *,
     ...     return frame.set_geometry(simplify_geoseries(frame.geometry, 1e-7))
     """
     return _cleaned(series, step, partial(
-        simplify_features, threads=threads), collapsed, others)
+        clean, cleaner="simplify", threads=threads), collapsed, others)
 
 
 def despike_geoseries(series: Any, step: Union[float, Grid], *,
@@ -157,7 +155,7 @@ def despike_geoseries(series: Any, step: Union[float, Grid], *,
     ...     return frame.set_geometry(despike_geoseries(frame.geometry, 1e-7))
     """
     return _cleaned(series, step, partial(
-        despike_features, threads=threads), collapsed, others)
+        clean, cleaner="despike", threads=threads), collapsed, others)
 
 
 def canonical_geoseries(series: Any, step: Union[float, Grid], *,
@@ -165,7 +163,7 @@ def canonical_geoseries(series: Any, step: Union[float, Grid], *,
                         others: str = "raise", threads: int = 1) -> Any:
     """Return a GeoSeries of the canonical forms of its rounded polygons.
 
-    Each is what :func:`canonical_features` answers of it.
+    Each is what :func:`canonical_features` returns of it.
 
     Parameters
     ----------
@@ -196,5 +194,4 @@ def canonical_geoseries(series: Any, step: Union[float, Grid], *,
     ...     return frame.set_geometry(canonical_geoseries(frame.geometry, 1))
     """
     return _cleaned(series, step, partial(
-        canonical_features, oriented=oriented, threads=threads), collapsed,
-        others)
+        forms, oriented=oriented, threads=threads), collapsed, others)

@@ -12,7 +12,7 @@ import numpy.typing as npt
 from .._errors import UnsafePointError
 from .._library import CALLS, Array, as_points, bound
 from ._builder import short
-from ._features import (FeatureError, Features, as_features,
+from ._features import (Checked, FeatureError, Features, as_features,
                         as_plane_points)
 
 
@@ -52,11 +52,11 @@ class Grid:
 
     def __post_init__(self) -> None:
         if not (_is_finite(self.step) and self.step > 0):
-            raise ValueError(f"step is {short(self.step)}: a finite number"
-                             " above 0 is needed")
+            raise ValueError(f"step is {short(self.step)}, not a finite number"
+                             " above 0")
         if len(self.origin) != 2 or not all(map(_is_finite, self.origin)):
-            raise ValueError(f"origin is {short(self.origin)}: two finite"
-                             " numbers are needed")
+            raise ValueError(f"origin is {short(self.origin)}, not two finite"
+                             " numbers")
 
     def _float_origin(self) -> Array:
         return np.array(self.origin, np.float64)
@@ -84,7 +84,7 @@ def _unsafe_text(points: Array, steps: Array, grid: Grid,
     return f"{text}: {fit[0]} has room for it" if fit else text
 
 
-class _Rounded(NamedTuple):
+class Rounded(NamedTuple):
     """Whole numbers, or the first row that isn't safe and what is said."""
 
     points: Array
@@ -92,20 +92,21 @@ class _Rounded(NamedTuple):
     text: str = ""
 
 
-def _rounded(points: Array, grid: Grid, dtype: Any) -> _Rounded:
+def rounded(points: Array, grid: Grid, dtype: Any) -> Rounded:
+    """The points on the grid, or the first that isn't safe there."""
     dtype = np.dtype(dtype)
     if dtype.kind != "i" or not dtype.isnative or dtype.itemsize not in CALLS:
-        raise TypeError(f"dtype is {dtype}: int16, int32 or int64 in native"
-                        " byte order is needed")
+        raise TypeError(f"dtype is {dtype}, not int16, int32 or int64 in"
+                        " native byte order")
     parts = grid._steps_to_one()
     with np.errstate(over="ignore", invalid="ignore"):
         moved = points.astype(np.float64, copy=False) - grid._float_origin()
         steps = np.rint(moved * parts if parts else moved / float(grid.step))
-        unsafe = ~(np.abs(steps) < bound(dtype)).all(axis=1)
-    if not unsafe.any():
-        return _Rounded(steps.astype(dtype))
-    row = int(unsafe.argmax())
-    return _Rounded(points, row,
+        safe = np.abs(steps) < bound(dtype)
+    if safe.all():
+        return Rounded(steps.astype(dtype))
+    row = int(safe.all(axis=1).argmin())
+    return Rounded(points, row,
                     _unsafe_text(points[row], steps[row], grid, dtype))
 
 
@@ -157,11 +158,11 @@ def to_grid(points: npt.ArrayLike, grid: Grid,
     >>> to_grid([(10.26, 50.0), (9.0, 51.13)], Grid(0.25, (10, 50))).tolist()
     [[1, 0], [-4, 5]]
     """
-    rounded = _rounded(as_plane_points(points), grid, dtype)
-    if rounded.row is not None:
-        raise UnsafePointError(f"point {rounded.row}: {rounded.text}",
-                               point=rounded.row)
-    return rounded.points
+    whole = rounded(as_plane_points(points), grid, dtype)
+    if whole.row is not None:
+        raise UnsafePointError(f"point {whole.row}: {whole.text}",
+                               point=whole.row)
+    return whole.points
 
 
 def from_grid(points: npt.NDArray[Any],
@@ -200,7 +201,11 @@ def from_grid(points: npt.NDArray[Any],
     >>> from_grid(np.array([(123456789, -3)]), Grid(1e-7)).tolist()
     [[12.3456789, -3e-07]]
     """
-    counts = as_points(points).astype(np.float64)
+    return _brought_back(as_points(points), grid)
+
+
+def _brought_back(points: Array, grid: Grid) -> npt.NDArray[np.float64]:
+    counts = points.astype(np.float64)
     parts = grid._steps_to_one()
     moved = counts / parts if parts else counts * float(grid.step)
     there: npt.NDArray[np.float64] = moved + grid._float_origin()
@@ -241,11 +246,16 @@ def features_to_grid(features: Features, grid: Grid,
     >>> to_wkt(features_to_grid(features, Grid(0.5)))
     ['POLYGON ((0 0, 8 0, 8 8, 0 0))']
     """
-    features = as_features(features)
-    rounded = _rounded(features.polygons.points, grid, dtype)
-    if rounded.row is not None:
-        raise FeatureError(rounded.text, *features.place(rounded.row))
-    return features.with_points(rounded.points)
+    return rounded_features(as_features(features), grid, dtype)
+
+
+def rounded_features(features: Checked, grid: Grid,
+                     dtype: npt.DTypeLike = np.int64) -> Checked:
+    """Round the points, or raise an error that names the first unsafe one."""
+    whole = rounded(features.polygons.points, grid, dtype)
+    if whole.row is not None:
+        raise FeatureError(whole.text, *features.place(whole.row))
+    return Checked(features.with_points(whole.points))
 
 
 def features_from_grid(features: Features, grid: Grid) -> Features:
@@ -282,4 +292,14 @@ def features_from_grid(features: Features, grid: Grid) -> Features:
     ['POLYGON ((0 0, 0.8 0, 0.8 0.8, 0 0))']
     """
     features = as_features(features)
-    return features.with_points(from_grid(features.polygons.points, grid))
+    as_points(features.polygons.points)
+    return floats_of(features, grid)
+
+
+def floats_of(features: Checked, grid: Grid) -> Checked:
+    """Bring features of whole numbers back to floats.
+
+    A float that overflows isn't looked for.
+    """
+    return Checked(features.with_points(
+        _brought_back(features.polygons.points, grid)))

@@ -7,9 +7,9 @@ from typing import Any, Iterable, Optional, Sequence
 import numpy as np
 
 from .._polygons import Polygons
-from .._rings import Rings
-from ._closing import close_rings, open_rings
-from ._features import FeatureError, Features, as_features, as_finite
+from ._closing import closed, open_rings
+from ._features import (Checked, FeatureError, Features, as_features,
+                        as_finite)
 from ._wkb import blobs_of, from_wkb
 
 _FEWEST = 3  # points that a ring of shapely has, the last one aside
@@ -19,10 +19,10 @@ def fault_of(geometry: Any) -> Optional[str]:
     """What keeps a geometry from being read, if anything does."""
     from shapely.geometry import MultiPolygon, Polygon
     if not isinstance(geometry, (Polygon, MultiPolygon)):
-        return ("a Polygon or a MultiPolygon is needed, not a"
+        return ("expected a Polygon or a MultiPolygon, not a"
                 f" {type(geometry).__name__}")
     if not geometry.is_empty and geometry.has_z:
-        return "it has three coordinates a point, and two are needed"
+        return "it has three coordinates a point, not two"
     return None
 
 
@@ -41,7 +41,7 @@ def _has_empty_part(geometry: Any, is_multi: bool) -> bool:
 
 
 def _from_ragged(shapely: Any, geometries: list[Any],
-                 are_multi: list[bool]) -> Features:
+                 are_multi: list[bool]) -> Checked:
     """The features of shapely 2's ragged arrays; no geometry is empty."""
     _, points, offsets = shapely.to_ragged_array(geometries)
     if any(are_multi):
@@ -55,18 +55,18 @@ def _from_ragged(shapely: Any, geometries: list[Any],
         np.asarray(features, np.int64), np.array(are_multi, np.bool_)))
 
 
-def _without_empty(features: Features) -> Features:
+def _without_empty(features: Features) -> Checked:
     """The features without polygons that have no rings."""
     parts = features.polygons.polygon_offsets
     stay = np.diff(parts) > 0
     counts = np.concatenate([np.zeros(1, np.int64), np.cumsum(stay)])
-    return features._replace(
+    return Checked(features._replace(
         polygons=features.polygons._replace(
             polygon_offsets=np.concatenate([parts[:1], parts[1:][stay]])),
-        feature_offsets=counts[features.feature_offsets])
+        feature_offsets=counts[features.feature_offsets]))
 
 
-def _from_objects(geometries: list[Any], are_multi: list[bool]) -> Features:
+def _from_objects(geometries: list[Any], are_multi: list[bool]) -> Checked:
     # A geometry of shapely 1.8 that is empty may have no bytes.
     features = from_wkb([None if geometry.is_empty else geometry.wkb
                          for geometry in geometries])
@@ -111,6 +111,11 @@ def from_shapely(geometries: Iterable[Any]) -> Features:
     ...     left = features_from_grid(simplify_features(whole), grid)
     ...     return to_shapely(left)
     """
+    return read_geometries(geometries)
+
+
+def read_geometries(geometries: Iterable[Any]) -> Checked:
+    """The polygons of the geometries."""
     import shapely
     geometries = list(geometries)
     are_multi = _are_multi(geometries)
@@ -120,7 +125,7 @@ def from_shapely(geometries: Iterable[Any]) -> Features:
     return _from_ragged(shapely, geometries, are_multi)
 
 
-def _require_long_rings(features: Features) -> None:
+def _require_long_rings(features: Checked) -> None:
     counts = np.diff(features.polygons.ring_offsets)
     short = counts < _FEWEST
     if short.any():
@@ -129,30 +134,23 @@ def _require_long_rings(features: Features) -> None:
                            f" has {counts[ring]}", *features.ring_place(ring))
 
 
-def _to_ragged(shapely: Any, features: Features) -> list[Any]:
+def _to_ragged(shapely: Any, features: Checked) -> list[Any]:
     """The geometries by shapely 2's ragged arrays; none is empty."""
-    polygons, offsets, are_multi = features
+    (points, ends, parts), offsets, are_multi = features
+    rings = closed(points.astype(np.float64, copy=False), ends)
     found: list[Any] = list(shapely.from_ragged_array(
-        shapely.GeometryType.MULTIPOLYGON, polygons.points,
-        (polygons.ring_offsets, polygons.polygon_offsets, offsets)))
+        shapely.GeometryType.MULTIPOLYGON, rings.points,
+        (rings.offsets, parts, offsets)))
     return [geometry if is_multi else geometry.geoms[0]
             for geometry, is_multi in zip(found, are_multi.tolist())]
 
 
-def _to_objects(features: Features) -> list[Any]:
+def _to_objects(features: Checked) -> list[Any]:
     from shapely import wkb
     return [wkb.loads(blob) for blob in blobs_of(_without_empty(features))]
 
 
-def _closed(features: Features) -> Features:
-    polygons = features.polygons
-    closed: Rings = close_rings(polygons.points.astype(np.float64),
-                                polygons.ring_offsets)
-    return features._replace(
-        polygons=Polygons(*closed, polygons.polygon_offsets))
-
-
-def _has_empty(features: Features) -> bool:
+def _has_empty(features: Checked) -> bool:
     levels = features.feature_offsets, features.polygons.polygon_offsets
     return not all(np.diff(offsets).all() for offsets in levels)
 
@@ -189,10 +187,14 @@ def to_shapely(features: Features) -> list[Any]:
     ...     points = [(0, 0), (4, 0), (4, 4)]
     ...     return to_shapely(features_of((points, [0, 3], [0, 1])))[0]
     """
+    return geometries_of(as_features(features))
+
+
+def geometries_of(features: Checked) -> list[Any]:
+    """The geometry of each feature."""
     import shapely
-    features = as_features(features)
     _require_long_rings(features)
     if (not len(features.are_multi) or _has_empty(features)
             or not hasattr(shapely, "from_ragged_array")):
         return _to_objects(features)
-    return _to_ragged(shapely, _closed(features))
+    return _to_ragged(shapely, features)

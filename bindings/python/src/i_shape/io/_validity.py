@@ -7,12 +7,13 @@ from typing import Any, NamedTuple, Optional, Tuple, Union
 
 import numpy as np
 
-from .._contacts import Fault, polygon_validity
+from .._contacts import Fault, find_faults
 from .._library import Array
-from ._features import Features, as_features
+from .._polygons import GivenPolygons
+from ._features import Checked, Features, as_features, rings_of
 from ._geoseries import naming, polygon_places, require_series
-from ._grid import Grid, features_to_grid
-from ._shapely import from_shapely
+from ._grid import Grid, rounded_features
+from ._shapely import read_geometries
 from ._wkt import shown
 
 Coordinates = Tuple[float, float]
@@ -106,10 +107,12 @@ def _fault(features: Features, polygon: int, kind: Fault, first: int,
                         None, tuple((x, y) for x, y in points.tolist()))
 
 
-def faults_of(given: Features, whole: Features,
+def faults_of(given: Checked, whole: Checked,
               threads: int = 1) -> list[Optional[FeatureFault]]:
     """The first fault of each feature, in the coordinates as given."""
-    faults = polygon_validity(*whole.polygons, threads=threads)
+    faults = find_faults(
+        GivenPolygons(rings_of(whole), whole.polygons.polygon_offsets),
+        threads)
     found: list[Optional[FeatureFault]] = [None] * len(whole.are_multi)
     for place in np.flatnonzero(faults["kind"])[::-1].tolist():
         # Of several faults of a feature the first one is set last.
@@ -121,9 +124,9 @@ def faults_of(given: Features, whole: Features,
     return found
 
 
-def _explained(features: Features, grid: Grid,
+def _explained(features: Checked, grid: Grid,
                threads: int) -> list[Optional[FeatureFault]]:
-    return faults_of(features, features_to_grid(features, grid), threads)
+    return faults_of(features, rounded_features(features, grid), threads)
 
 
 def _explained_series(series: Any, grid: Grid, others: str,
@@ -134,7 +137,7 @@ def _explained_series(series: Any, grid: Grid, others: str,
     places = polygon_places(geometries, others)
     faults: list[Optional[FeatureFault]] = [None] * len(geometries)
     with naming(places):
-        found = _explained(from_shapely(geometries[places]), grid, threads)
+        found = _explained(read_geometries(geometries[places]), grid, threads)
     for place, fault in zip(places.tolist(), found):
         faults[place] = fault
     return pandas.Series(faults, index=series.index, dtype=object,

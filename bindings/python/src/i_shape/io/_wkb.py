@@ -10,13 +10,14 @@ from typing import Any, Iterable, Optional
 import numpy as np
 
 from ._builder import Builder, short
-from ._closing import close_rings
-from ._features import FeatureError, Features, as_features
+from ._closing import closed
+from ._features import Checked, FeatureError, Features, as_features
 
 _POLYGON, _MULTIPOLYGON = 3, 6
 _SRID, _Z_OR_M = 0x20000000, 0xC0000000
 _COUNTS = (struct.Struct(">I").unpack_from, struct.Struct("<I").unpack_from)
 _NATIVE = int(sys.byteorder == "little")
+_POINT_SIZE = 16
 _HEAD = struct.Struct("<BI").pack
 _COUNT = struct.Struct("<I").pack
 _NAMES = ("Geometry", "Point", "LineString", "Polygon", "MultiPoint",
@@ -27,16 +28,25 @@ _NAMES = ("Geometry", "Point", "LineString", "Polygon", "MultiPoint",
 
 
 class _Reader:
-    """Reads the bytes of one geometry from their front on."""
+    """Reads the bytes of geometries, each from its front on."""
 
-    def __init__(self, builder: Builder, blob: bytes) -> None:
+    __slots__ = ("_builder", "_blob", "_at", "_order")
+
+    def __init__(self, builder: Builder) -> None:
         self._builder = builder
-        self._blob = blob
+        self._blob = b""
         self._at = 0
-        self._unpack = _COUNTS[_NATIVE]
-        self._is_swapped = False
+        self._order = _NATIVE
 
-    def read(self) -> None:
+    def read(self, blob: Any) -> None:
+        """Add the feature that some bytes stand for."""
+        if blob is None:
+            self._builder.end_feature(True)
+            return
+        if not isinstance(blob, (bytes, bytearray, memoryview)):
+            raise self._builder.feature_fault(
+                f"expected bytes, not {short(blob)}")
+        self._blob, self._at = bytes(blob), 0
         kind = self._kind()
         if kind == _POLYGON:
             self._read_polygon(self._count())
@@ -53,13 +63,12 @@ class _Reader:
 
     def _kind(self) -> int:
         """The type, with what says how many coordinates a point has."""
-        order = self._blob[self._at:self._at + 1]
-        if order not in (b"\0", b"\1"):
-            raise self._short(1) if not order else self._builder.feature_fault(
-                f"byte {self._at} is {order[0]}: a byte order, 0 or 1, is"
-                " needed")
-        self._unpack = _COUNTS[order[0]]
-        self._is_swapped = order[0] != _NATIVE
+        if self._at >= len(self._blob):
+            raise self._short(1)
+        self._order = self._blob[self._at]
+        if self._order > 1:
+            raise self._builder.feature_fault(
+                f"byte {self._at} is {self._order}: a byte order is 0 or 1")
         self._at += 1
         kind = self._count()
         if kind & _SRID:
@@ -68,7 +77,7 @@ class _Reader:
 
     def _count(self) -> int:
         try:
-            count: int = self._unpack(self._blob, self._at)[0]
+            count: int = _COUNTS[self._order](self._blob, self._at)[0]
         except struct.error:
             raise self._short(4) from None
         self._at += 4
@@ -76,7 +85,7 @@ class _Reader:
 
     def _short(self, size: int) -> FeatureError:
         return self._builder.feature_fault(
-            f"{size} bytes are needed at byte {self._at}, and there are"
+            f"expected {size} bytes at byte {self._at}, and there are"
             f" {max(len(self._blob) - self._at, 0)}")
 
     def _other(self, kind: int) -> FeatureError:
@@ -87,17 +96,17 @@ class _Reader:
                 f"{kind:#x} isn't a type of WKB")
         if base in (_POLYGON, _MULTIPOLYGON):
             return self._builder.other(
-                f"a {_NAMES[base]} of two coordinates a point is needed, and"
+                f"expected a {_NAMES[base]} of two coordinates a point, and"
                 " it has more", has_more=True)
         return self._builder.other(
-            f"a Polygon or a MultiPolygon is needed, not a {_NAMES[base]}")
+            f"expected a Polygon or a MultiPolygon, not a {_NAMES[base]}")
 
     def _read_part(self) -> None:
         kind = self._kind()
         if kind != _POLYGON:
             raise self._builder.fault(
-                f"a part of a MultiPolygon has the type {kind:#x}: that of a"
-                " Polygon, 0x3, is needed", is_in_ring=False)
+                f"a part of a MultiPolygon has the type {kind:#x}, not that"
+                " of a Polygon, 0x3", is_in_ring=False)
         count = self._count()
         if not count:
             self._builder.end_polygon()
@@ -105,30 +114,21 @@ class _Reader:
 
     def _read_polygon(self, count: int) -> None:
         for _ in range(count):
-            self._read_ring()
+            size = _POINT_SIZE * self._count()
+            start, self._at = self._at, self._at + size
+            if self._at > len(self._blob):
+                raise self._builder.fault(
+                    f"{size // _POINT_SIZE} points need {size} bytes at byte"
+                    f" {start}, and there are {len(self._blob) - start}")
+            self._builder.add_ring_bytes(self._blob[start:self._at],
+                                         self._order != _NATIVE)
         if count:
             self._builder.end_polygon()
-
-    def _read_ring(self) -> None:
-        count = self._count()
-        end = self._at + 16 * count
-        if end > len(self._blob):
-            raise self._builder.fault(
-                f"{count} points need {16 * count} bytes at byte {self._at},"
-                f" and there are {len(self._blob) - self._at}")
-        self._builder.add_ring_bytes(self._blob[self._at:end],
-                                     self._is_swapped)
-        self._at = end
 
 
 def read(builder: Builder, blob: Any) -> None:
     """Add the feature that some bytes stand for."""
-    if blob is None:
-        builder.end_feature(True)
-        return
-    if not isinstance(blob, (bytes, bytearray, memoryview)):
-        raise builder.feature_fault(f"bytes are needed, not {short(blob)}")
-    _Reader(builder, bytes(blob)).read()
+    _Reader(builder).read(blob)
 
 
 def from_wkb(blobs: Iterable[Any]) -> Features:
@@ -171,12 +171,13 @@ def from_wkb(blobs: Iterable[Any]) -> Features:
     ['POLYGON ((0 0, 4 0, 4 3, 0 0))']
     """
     if isinstance(blobs, (bytes, bytearray, memoryview, str)):
-        raise TypeError("blobs are one geometry: a list of bytes is needed")
+        raise TypeError("blobs are one geometry, not a list of bytes")
     if isinstance(blobs, np.ndarray) and blobs.dtype.kind != "O":
-        raise TypeError(f"blobs have dtype {blobs.dtype}: object is needed")
+        raise TypeError(f"blobs have dtype {blobs.dtype}, not object")
     builder = Builder()
+    reader = _Reader(builder)
     for blob in blobs:
-        read(builder, blob)
+        reader.read(blob)
     return builder.features()
 
 
@@ -184,12 +185,13 @@ def _pieces(whole: bytes, ends: list[int]) -> list[bytes]:
     return [whole[start:end] for start, end in zip(ends, ends[1:])]
 
 
-def blobs_of(features: Features, srid: Optional[int] = None) -> list[bytes]:
-    """The bytes of each feature, which is tested already."""
+def blobs_of(features: Checked, srid: Optional[int] = None) -> list[bytes]:
+    """The bytes of each feature."""
     (points, ends, parts), offsets, are_multi = features
-    closed = close_rings(points.astype("<f8"), ends)
-    rings = [_COUNT(len(ring) // 16) + ring for ring in
-             _pieces(closed.points.tobytes(), (16 * closed.offsets).tolist())]
+    whole = closed(points.astype("<f8", copy=False), ends)
+    rings = [_COUNT(len(ring) // _POINT_SIZE) + ring for ring in
+             _pieces(whole.points.tobytes(),
+                     (_POINT_SIZE * whole.offsets).tolist())]
     part_ends, feature_ends = parts.tolist(), offsets.tolist()
     polygons = [_COUNT(end - start) + b"".join(rings[start:end])
                 for start, end in zip(part_ends, part_ends[1:])]
@@ -248,6 +250,6 @@ def to_wkb(features: Features, srid: Optional[int] = None) -> list[bytes]:
     (81, ['POLYGON ((0 0, 4 0, 4 3, 0 0))'])
     """
     if srid is not None and not 0 <= operator.index(srid) < 2 ** 32:
-        raise ValueError(f"srid is {short(srid)}: a whole number from 0 to"
-                         " before 2**32 is needed")
+        raise ValueError(f"srid is {short(srid)}, not a whole number from 0 to"
+                         " before 2**32")
     return blobs_of(as_features(features), srid)

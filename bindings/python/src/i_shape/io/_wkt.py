@@ -44,23 +44,23 @@ class _Reader:
             raise self._other(name)
 
     def _other(self, name: str) -> FeatureError:
-        """An error at what comes next, where something else is needed."""
+        """An error at what comes next, which isn't what is expected."""
         rest = self._text[self._at:].strip()
         return self._builder.feature_fault(
-            f"{name} is needed at character {self._at}, not"
+            f"expected {name} at character {self._at}, not"
             f" {short(rest) if rest else 'the end'}")
 
     def read(self) -> None:
         kind = self._takes(_HEAD).strip().upper()
         if not kind:
-            message = ("POLYGON or MULTIPOLYGON is needed, not"
+            message = ("expected POLYGON or MULTIPOLYGON, not"
                        f" {short(self._text.strip())}")
             if _OTHER.match(self._text):
                 raise self._builder.other(message)
             raise self._builder.feature_fault(message)
         if self._takes(_DIMENSIONS):
             raise self._builder.other(
-                f"a {kind} of two coordinates a point is needed, and it has"
+                f"expected a {kind} of two coordinates a point, and it has"
                 " more", has_more=True)
         is_multi = kind == "MULTIPOLYGON"
         if not self._takes(_EMPTY):
@@ -107,7 +107,7 @@ class _Reader:
             if len(words) != 2:
                 return self._builder.fault(
                     f"the point {short(' '.join(words))} has {len(words)}"
-                    " coordinates: 2 are needed", place,
+                    " coordinates, not 2", place,
                     is_other=len(words) in (3, 4))
             for word in words:
                 if not _NUMBER.fullmatch(word):
@@ -119,7 +119,7 @@ class _Reader:
 def read(builder: Builder, text: Any) -> None:
     """Add the feature that a text stands for."""
     if not isinstance(text, str):
-        raise builder.feature_fault(f"a text is needed, not {short(text)}")
+        raise builder.feature_fault(f"expected a text, not {short(text)}")
     _Reader(builder, text).read()
 
 
@@ -159,7 +159,7 @@ def from_wkt(texts: Iterable[str]) -> Features:
     [[0.0, 0.0], [4.0, 0.0], [4.0, 4.5]]
     """
     if isinstance(texts, str):
-        raise TypeError("texts are one text: a list of texts is needed")
+        raise TypeError("texts are one text, not a list of texts")
     builder = Builder()
     for text in texts:
         read(builder, text)

@@ -1,4 +1,4 @@
-"""What the command refuses: OUT is as it was then."""
+"""Errors of the command: OUT is as it was then."""
 
 import contextlib
 import importlib.util
@@ -21,10 +21,10 @@ from i_shape._command import text_files
 from test_command import SPIKED, SQUARE, CommandCase
 
 
-class Refused(CommandCase):
+class Errors(CommandCase):
 
     def assert_nothing_is_written(self, *words, status=1):
-        """It fails, and each file stays as it was. It answers what is told."""
+        """It fails, and each file stays. It returns what is printed."""
         self.out.write_text("as it was")
         before = {path: path.read_bytes() for path in self.folder.iterdir()}
         told = self.run_command(*words, status=status)
@@ -47,7 +47,7 @@ class Refused(CommandCase):
                 ("{", "line 1 column 2"),
                 ("[" * 10 ** 5, "nested too deeply"),
                 ('{"type": "FeatureCollection", "features": [{"a": 1}',
-                 "feature 0: a Feature is needed, not {'a': 1}"),
+                 "feature 0: expected a Feature, not {'a': 1}"),
                 ('{"type": "FeatureCollection", "features": [\n',
                  "Expecting value: line 2 column 1 (char 44)"),
                 ('{"features": [], "type": "Feature"}', "not 'Feature'"),
@@ -56,10 +56,12 @@ class Refused(CommandCase):
                 ('{"features": [], "features": null}', "twice"),
                 ('{"type": "FeatureCollection"}', "features are None"),
                 (square + "\n]", "Extra data: line 2 column 1"),
-                ("[]", "feature 0: an object of GeoJSON is needed"),
-                ("null", "feature 0: an object of GeoJSON is needed"),
-                (second("[0, 0]", "Point"), "feature 1: a Polygon or"),
-                (second("[]", "GeometryCollection"), "feature 1: a Polygon"),
+                ("[]", "feature 0: expected an object of GeoJSON"),
+                ("null", "feature 0: expected an object of GeoJSON"),
+                (second("[0, 0]", "Point"),
+                 "feature 1: expected a Polygon or"),
+                (second("[]", "GeometryCollection"),
+                 "feature 1: expected a Polygon"),
                 (second("[[[0, 0], [1, NaN], [1, 1]]]"),
                  "NaN isn't a number of JSON: line 1 column"),
                 (second("[[[0, 0]], [[1, 0], [-Infinity, 1]]]"),
@@ -95,22 +97,23 @@ class Refused(CommandCase):
     def test_hostile_lines(self):
         for text, words in (
                 ("POLYGON EMPTY\nPOINT (0 0)\n",
-                 "line 2: feature 1: POLYGON or"),
+                 "line 2: feature 1: expected POLYGON or"),
                 ("\nPOLYGON EMPTY\n \nPOINT (0 0)\n",
-                 "line 4: feature 1: POLYGON or"),
+                 "line 4: feature 1: expected POLYGON or"),
                 ("\nPOLYGON ((0 0, 1 1e999))\n\nPOLYGON EMPTY",
                  "line 2: feature 0, polygon 0, ring 0, point 1: the point"),
                 ("\n\nPOLYGON ((0 0, 1e300 1))",
                  "line 3: feature 0, polygon 0, ring 0, point 1: x is 1e+300"),
                 ("POLYGON ((0 0, 1 nan))", "ring 0, point 1: 'nan'"),
-                ("POLYGON ((0 0, 1 1)\n", "feature 0: ')' is needed"),
-                ("POLYGON Z ((0 0 0, 1 1 1))", "feature 0: a POLYGON of two"),
+                ("POLYGON ((0 0, 1 1)\n", "feature 0: expected ')'"),
+                ("POLYGON Z ((0 0 0, 1 1 1))",
+                 "feature 0: expected a POLYGON of two"),
                 ("POLYGON Z ((0 0 0, 1 1 1))",
                  "--others drop allows it; `ogr2ogr -dim XY` drops heights"),
                 ("POLYGON ((0 0 0, 1 1 1))", "; `ogr2ogr -dim XY` drops"),
                 ("POINT (0 0)",
                  "; --others keep or --others drop allows it\n"),
-                ("\0", "feature 0: POLYGON or MULTIPOLYGON")):
+                ("\0", "feature 0: expected POLYGON or MULTIPOLYGON")):
             with self.subTest(text=text):
                 path = self.write(text, "a.wkt")
                 told = self.assert_nothing_is_written(
@@ -355,7 +358,7 @@ class Refused(CommandCase):
             self.assertEqual(run.returncode, 128 + signal.SIGTERM)
             self.assertEqual(sorted(self.folder.iterdir()), before)
 
-    def test_words_that_are_refused(self):
+    def test_words_that_are_errors(self):
         self.write(samples.geojson())
         for words, told in (
                 (["simplify", self.given, self.out], "--step"),
