@@ -11,37 +11,37 @@ const KINDS = {
 
 const TYPED_ARRAY = Object.getPrototypeOf(Int8Array.prototype);
 
-/** Answers how many items a typed array has, whatever properties of its own it has. */
+/** Returns how many items a typed array has, whatever properties of its own it has. */
 export function lengthOf(array) {
     return Reflect.get(TYPED_ARRAY, "length", array);
 }
 
-/** Answers how many bytes these take. */
+/** Returns how many bytes these take. */
 export function byteLengthOf(array) {
     return Reflect.get(TYPED_ARRAY, "byteLength", array);
 }
 
-/** Answers the type of an array of points x0, y0, x1, y1, .. */
+/** Returns the type of an array of points x0, y0, x1, y1, .. */
 export function kindOf(points) {
     const kind = ArrayBuffer.isView(points) ? KINDS[Reflect.get(TYPED_ARRAY, Symbol.toStringTag, points)] : undefined;
-    if (!kind) throw new TypeError("points are no Int16Array, Int32Array or BigInt64Array");
+    if (!kind) throw new TypeError("points are no Int16Array, Int32Array or BigInt64Array, such as Int32Array.of(x0, y0, x1, y1)");
     if (lengthOf(points) % 2 !== 0) throw new RangeError(`points have ${lengthOf(points)} coordinates: an x without a y`);
     return kind;
 }
 
-/** Answers whether a coordinate lies in the safe range of a type. */
+/** Returns whether a coordinate lies in the safe range of a type. */
 export function isInSafeRange(coordinate, { limit }) {
     return -limit < coordinate && coordinate < limit;
 }
 
-/** Throws where a coordinate that stands by itself is no whole number of a type. */
+/** Throws where a coordinate by itself is no whole number of a type. */
 export function checkCoordinate(coordinate, { bits }) {
     if (bits === 64 ? typeof coordinate !== "bigint" : !Number.isInteger(coordinate)) {
         throw new TypeError(`a coordinate is ${String(coordinate)}, and no ${bits === 64 ? "bigint" : "whole number"}`);
     }
 }
 
-/** Answers an offset as a number that is exact. */
+/** Returns an offset as a number that is exact. */
 function asOffset(offset, name, place) {
     if (typeof offset !== "bigint" && !Number.isInteger(offset)) throw new TypeError(`${name} have ${String(offset)}, and no whole number`);
     if (offset < 0 || offset > Number.MAX_SAFE_INTEGER) throw new OffsetsError(`${name}[${place}] is ${offset}: there are not so many items`, place);
@@ -55,7 +55,7 @@ export function offsetsFault(offsets, place, count, name) {
     return new OffsetsError(`${name}[${place}] is ${offsets[place]}, ${fault}`, place);
 }
 
-/** Answers the offsets as numbers that are exact. Whether they are in order is left to the library. */
+/** Returns the offsets as numbers that are exact. Whether they are in order is left to the library. */
 export function asOffsets(offsets, name = "offsets") {
     if (typeof offsets !== "object" || !Number.isInteger(offsets?.length)) throw new TypeError(`${name} are no array`);
     const numbers = new Float64Array(offsets.length);

@@ -1,6 +1,6 @@
 /** What the library's calls throw. */
 
-/** What a code of the C library stands for: the call has answered nothing. */
+/** What a code of the C library stands for: the call has returned nothing. */
 export class IShapeError extends Error {
     /** @param {number} code */
     constructor(code, message) {

@@ -12,8 +12,8 @@ const KINDS = [
 /** Returns the faults by what the library writes of each, three numbers: its code and two places. */
 export function faultsOf(numbers) {
     return Array.from({ length: numbers.length / 3 }, (_, k) => {
-        const [code, ...told] = numbers.subarray(3 * k, 3 * k + 3);
+        const [code, ...found] = numbers.subarray(3 * k, 3 * k + 3);
         const { kind, places } = KINDS[code];
-        return { kind, ...Object.fromEntries(places.map((name, place) => [name, told[place]])) };
+        return { kind, ...Object.fromEntries(places.map((name, place) => [name, found[place]])) };
     });
 }

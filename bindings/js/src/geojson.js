@@ -6,7 +6,7 @@ import { checkedOptions } from "./options.js";
 /** The calls on rings that `cleanFeatures` makes, by the names of those on a contour. */
 const RING_CALLS = { __proto__: null, simplify: "simplifyRings", despike: "despikeRings" };
 
-/** Answers the text of a value in a message, also where JSON has none. */
+/** Returns the text of a value in a message, also where JSON has none. */
 function shown(value) {
     try {
         return String(JSON.stringify(value, (_, item) => (typeof item === "bigint" ? `${item}n` : item)));
@@ -15,13 +15,13 @@ function shown(value) {
     }
 }
 
-/** Answers an array, whose holes are undefined. */
+/** Returns an array, whose holes are undefined. */
 function listOf(what, value) {
     if (!Array.isArray(value)) throw new GeoJsonError(`GeoJSON: ${shown(value)} is no list of ${what}`);
     return Array.from(value);
 }
 
-/** Answers the positions of a ring without the first one again at its end. */
+/** Returns the positions of a ring without the first one again at its end. */
 function openedRing(positions) {
     const ring = listOf("positions", positions);
     for (const position of ring) {
@@ -37,7 +37,7 @@ function openedRings(rings) {
     return listOf("rings", rings).map(openedRing);
 }
 
-/** Answers the polygons of a feature or a geometry, each an array of open rings of positions. */
+/** Returns the polygons of a feature or a geometry, each an array of open rings of positions. */
 function polygonsOf(object) {
     if (typeof object === "string") throw new GeoJsonError("GeoJSON: a text is no object: parse it first, by JSON.parse");
     const { type, coordinates } = object ?? {};
@@ -57,13 +57,13 @@ function polygonsOfFeature(feature, place) {
     }
 }
 
-/** Answers the polygons of each feature of a collection, or those of another object alone. */
+/** Returns the polygons of each feature of a collection, or those of another object alone. */
 function featuresOf(object) {
     if (object?.type !== "FeatureCollection") return [polygonsOf(object)];
     return listOf("features", object.features).map(polygonsOfFeature);
 }
 
-/** Answers the whole number next to a number; of two that are as near the even one. */
+/** Returns the whole number next to a number; of two that are as near the even one. */
 function rounded(number) {
     const above = Math.round(number);
     return above - number === 0.5 && above % 2 !== 0 ? above - 1 : above;
@@ -129,7 +129,7 @@ function closedRing(points, ringOffsets, k, coordinate) {
     return ring.length ? [...ring, [...ring[0]]] : ring;
 }
 
-/** Answers the coordinates of each polygon, of grid points that lie a step apart, of which `parts` make 1. */
+/** Returns the coordinates of each polygon, of grid points that lie a step apart, of which `parts` make 1. */
 function coordinatesOf({ points, ringOffsets, polygonOffsets }, step, parts) {
     const coordinate = (steps) => (parts ? Number(steps) / parts : Number(steps) * step);
     return Array.from({ length: polygonOffsets.length - 1 }, (_, k) =>

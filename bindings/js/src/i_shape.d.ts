@@ -234,13 +234,22 @@ export interface IShape {
     locate<P extends Points>(points: P, offsets: Offsets, about: Plain<P>, rule?: FillRule): Int8Array;
 
     /**
+     * Of each of the points `about` the index of the first polygon that holds it, and -1 where none does: the fill rule, by default "evenodd", fills it by how often
+     * the rings of that polygon together wind about it. Of points on an edge some are held: where polygons tile an area, one of them holds each point within it.
+     * @throws {OffsetsError} tested before whether points are safe
+     * @throws {UnsafePointError} of rings that no polygon has, too
+     * @throws {OutOfMemoryError}
+     */
+    locateInPolygons<P extends Points>(points: P, ringOffsets: Offsets, polygonOffsets: Offsets, about: Plain<P>, rule?: FillRule): Int32Array;
+
+    /**
      * Twice the signed area, positive for a counterclockwise contour; undefined for no points. Any coordinates are
      * allowed: a sum that doesn't fit twice the bits of a coordinate wraps.
      */
     areaTwo(contour: Points): bigint | undefined;
 
     /**
-     * Of each ring what `isSimple` answers. Points outside the offsets needn't be safe.
+     * Of each ring what `isSimple` returns. Points outside the offsets needn't be safe.
      * @throws {OffsetsError} tested before whether points are safe
      * @throws {UnsafePointError}
      * @throws {OutOfMemoryError}
@@ -251,13 +260,13 @@ export interface IShape {
 
     isConvexRings(points: Points, offsets: Offsets): boolean[];
 
-    /** Of each ring what `isSimplePolygon` answers. */
+    /** Of each ring what `isSimplePolygon` returns. */
     areSimplePolygons(points: Points, offsets: Offsets): boolean[];
 
-    /** Of each ring what `isSafe` answers. */
+    /** Of each ring what `isSafe` returns. */
     isSafeRings(points: Points, offsets: Offsets): boolean[];
 
-    /** Of each ring what `areaTwo` answers, and 0 where it has no point. */
+    /** Of each ring what `areaTwo` returns, and 0 where it has no point. */
     areaTwoRings(points: Points, offsets: Offsets): bigint[];
 
     /**
@@ -307,7 +316,7 @@ export interface IShape {
      */
     cleanFeatures<T extends object>(object: T, options: CleanOptions): T;
 
-    /** The sum of what `areaTwo` answers of the rings of each polygon, which wraps as it does: a hole counts against an outer ring that turns the other way. */
+    /** The sum of what `areaTwo` returns of the rings of each polygon, which wraps as it does: a hole counts against an outer ring that turns the other way. */
     areaTwoPolygons(points: Points, ringOffsets: Offsets, polygonOffsets: Offsets): bigint[];
 
     /**
@@ -325,7 +334,7 @@ export interface IShape {
     /** @deprecated Its name is `removeSpikes`. */
     despikePolygons<P extends Points>(points: P, ringOffsets: Offsets, polygonOffsets: Offsets): Polygons<P>;
 
-    /** The canonical form: rings canonical, holes and polygons sorted, so that two lists of the same polygons have equal answers. */
+    /** The canonical form: rings canonical, holes and polygons sorted, so that two lists of the same polygons have equal results. */
     canonicalPolygons<P extends Points>(points: P, ringOffsets: Offsets, polygonOffsets: Offsets): Polygons<P>;
 
     /** The same where a ring may be read backwards too. */

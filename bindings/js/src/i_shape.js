@@ -1,6 +1,6 @@
 /**
  * Contours of whole-number points, cleaned and measured by the calls of i_shape, compiled to WebAssembly from proved source.
- * i_shape.d.ts says what each call takes, answers and throws.
+ * i_shape.d.ts says what each call takes, returns and throws.
  */
 import { asOffsets, byteLengthOf, checkCoordinate, isInSafeRange, kindOf, lengthOf, offsetsFault } from "./arrays.js";
 import { CollapsedError, GeoJsonError, IShapeError, OffsetsError, OutOfMemoryError, UnsafePointError } from "./errors.js";
@@ -54,6 +54,11 @@ class Given {
     get words() {
         return [this.address, countOf(this.points), ...this.offsets.flatMap((each, k) => [this.offsetAddresses[k], each.length])];
     }
+
+    /** The words of the points and of the rings, for a call that takes no polygons. */
+    get ringWords() {
+        return this.words.slice(0, 4);
+    }
 }
 
 function outside({ bits }) {
@@ -76,9 +81,14 @@ function codeOf(rule) {
     return code;
 }
 
-/** What the bytes at an address tell, 1 or 0 each, as many as there are. */
+/** The bytes at an address, 1 or 0 each, as many as there are, as booleans. */
 function readBooleans(loan, address, count) {
     return Array.from(loan.read(Uint8Array, address, count), (byte) => byte === 1);
+}
+
+/** The numbers of 32 bits at an address, as many as there are. */
+function readInts(loan, address, count) {
+    return loan.read(Int32Array, address, count);
 }
 
 /** The areas at an address, as many as there are. */
@@ -93,6 +103,11 @@ function readAreas(loan, address, count, { bits }) {
 function ranksOf(offsets) {
     let rank = 1;
     return offsets.map((offset, k) => (rank += Math.sign(offset - (offsets[k - 1] ?? offset))));
+}
+
+/** Divides the items of the rings among the polygons. */
+function cut(items, polygons) {
+    return Array.from(polygons.subarray(1), (end, k) => items.slice(polygons[k], end));
 }
 
 /** The key of a polygon by those of its rings, of which the outer one comes first. */
@@ -195,15 +210,20 @@ class IShape {
     }
 
     windingNumbers(points, offsets, about) {
-        return this.#askMany("windings", points, offsets, about, [], 4, (loan, out, count) => loan.read(Int32Array, out, count));
+        return this.#askMany("windings", points, { offsets }, about, [], 4, readInts);
     }
 
     containsPoints(points, offsets, about, rule = "evenodd") {
-        return this.#askMany("contains_points", points, offsets, about, [codeOf(rule)], 1, readBooleans);
+        return this.#askMany("contains_points", points, { offsets }, about, [codeOf(rule)], 1, readBooleans);
     }
 
     locate(points, offsets, about, rule = "evenodd") {
-        return this.#askMany("locate", points, offsets, about, [codeOf(rule)], 1, (loan, out, count) => loan.read(Int8Array, out, count));
+        return this.#askMany("locate", points, { offsets }, about, [codeOf(rule)], 1, (loan, out, count) => loan.read(Int8Array, out, count));
+    }
+
+    locateInPolygons(points, ringOffsets, polygonOffsets, about, rule = "evenodd") {
+        // Where there is none, the call writes 2^32 - 1: the bits of -1.
+        return this.#askMany("locate_in_shapes", points, { ringOffsets, polygonOffsets }, about, [codeOf(rule)], 4, readInts);
     }
 
     areaTwo(contour) {
@@ -257,10 +277,11 @@ class IShape {
 
     canonicalKeys(points, ringOffsets, polygonOffsets, options = {}) {
         const { oriented = false } = checkedOptions("canonicalKeys", options, ["oriented"]);
-        const forms = oriented ? this.canonicalRings(points, ringOffsets) : this.canonicalUnorientedRings(points, ringOffsets);
+        const polygons = polygonOffsets && asOffsets(polygonOffsets, "polygonOffsets");
+        const forms = this.#cleanRings(oriented ? "canonical_contours" : "canonical_unoriented_contours", points, ringOffsets, polygons);
         const ends = forms.offsets;
         const keys = Array.from({ length: ends.length - 1 }, (_, k) => forms.points.subarray(2 * ends[k], 2 * ends[k + 1]).join(" "));
-        return polygonOffsets ? this.#cut(keys, polygonOffsets).map(keyOfPolygon) : keys;
+        return polygons ? cut(keys, polygons).map(keyOfPolygon) : keys;
     }
 
     sameRings(a, b, options = {}) {
@@ -304,7 +325,8 @@ class IShape {
     areaTwoPolygons(points, ringOffsets, polygonOffsets) {
         const { bits } = kindOf(points);
         const sum = (areas) => BigInt.asIntN(2 * bits, areas.reduce((one, other) => one + other, 0n));
-        return this.#cut(this.areaTwoRings(points, ringOffsets), polygonOffsets).map(sum);
+        const polygons = asOffsets(polygonOffsets, "polygonOffsets");
+        return cut(this.#measureRings("area_two_contours", points, ringOffsets, 16, readAreas, polygons), polygons).map(sum);
     }
 
     simplifyPolygons(points, ringOffsets, polygonOffsets) {
@@ -331,7 +353,7 @@ class IShape {
         return this.#exports[`i_shape_${name}_i${bits}`];
     }
 
-    /** Answers what a call has answered, or throws what its code means. */
+    /** Returns what a call has returned, or throws what its code means. */
     #answered(answer, given) {
         if (answer === UNSAFE) throw this.#unsafePoint(given);
         if (answer === BAD_OFFSETS) this.#checkOffsets(given);
@@ -365,11 +387,12 @@ class IShape {
         if (!offsets.length || place < offsets.length) throw offsetsFault(offsets, place, count, name);
     }
 
-    /** Parts what there is of each ring into polygons. */
-    #cut(items, polygonOffsets) {
-        const offsets = asOffsets(polygonOffsets, "polygonOffsets");
-        borrow(this.#exports, (loan) => this.#checkParting(offsets, loan.copyOffsets(offsets), items.length, "polygonOffsets"));
-        return Array.from(offsets.subarray(1), (end, k) => items.slice(offsets[k], end));
+    /** What a call on rings is given, and the polygons that they are divided among, if there are any: these the call doesn't test. */
+    #givenRings(loan, points, kind, ringOffsets, polygons) {
+        const rings = asOffsets(ringOffsets, polygons ? "ringOffsets" : "offsets");
+        const given = new Given(loan, points, kind, rings, ...(polygons ? [polygons] : []));
+        if (polygons) this.#checkParting(polygons, given.offsetAddresses[1], rings.length - 1, "polygonOffsets");
+        return given;
     }
 
     #clean(name, contour) {
@@ -403,7 +426,7 @@ class IShape {
         });
     }
 
-    /** Hands what a call answers about a point to `use`; `rule` is its further argument, or empty. */
+    /** Hands what a call returns about a point to `use`; `rule` is its further argument, or empty. */
     #ask(name, contour, x, y, rule, use) {
         const kind = kindOf(contour);
         checkAsked(x, y, kind);
@@ -413,14 +436,17 @@ class IShape {
         });
     }
 
-    /** Hands what a call writes of the points asked about, in items of so many bytes, to `read`; `rule` is its further argument, or empty. */
+    /**
+     * Hands what a call writes of the points asked about, in items of so many bytes, to `read`. `offsets` are those that it takes, by their names; `rule` is its
+     * further argument, or empty.
+     */
     #askMany(name, points, offsets, about, rule, bytes, read) {
         const kind = kindOf(points);
         if (kindOf(about) !== kind) throw new TypeError("the points asked about are of another type");
-        const from = asOffsets(offsets);
+        const dividing = Object.entries(offsets).map(([its, each]) => asOffsets(each, its));
         return borrow(this.#exports, (loan) => {
             const count = lengthOf(about) / 2;
-            const given = new Given(loan, points, kind, from);
+            const given = new Given(loan, points, kind, ...dividing);
             const asked = new Given(loan, about, kind);
             const out = loan.take(bytes * count);
             const answer = this.#call(name, kind)(...given.words, ...asked.words, ...rule, out, count);
@@ -436,27 +462,26 @@ class IShape {
     }
 
     /** Hands what a call writes of the rings, in items of so many bytes at the most, to `read`. */
-    #measureRings(name, points, offsets, bytes, read) {
+    #measureRings(name, points, offsets, bytes, read, polygons) {
         const kind = kindOf(points);
-        const from = asOffsets(offsets);
         return borrow(this.#exports, (loan) => {
-            const count = Math.max(from.length - 1, 0);
-            const given = new Given(loan, points, kind, from);
+            const given = this.#givenRings(loan, points, kind, offsets, polygons);
+            const count = Math.max(given.offsets[0].length - 1, 0);
             const out = loan.take(bytes * count);
-            this.#answered(this.#call(name, kind)(...given.words, out, count), given);
+            this.#answered(this.#call(name, kind)(...given.ringWords, out, count), given);
             return read(loan, out, count, kind);
         });
     }
 
-    #cleanRings(name, points, offsets) {
+    #cleanRings(name, points, offsets, polygons) {
         const kind = kindOf(points);
-        const from = asOffsets(offsets);
         return borrow(this.#exports, (loan) => {
-            const given = new Given(loan, points, kind, from);
+            const given = this.#givenRings(loan, points, kind, offsets, polygons);
             const out = loan.take(byteLengthOf(points));
-            const outOffsets = loan.take(4 * from.length);
-            const left = this.#answered(this.#call(name, kind)(...given.words, out, countOf(points), outOffsets, from.length), given);
-            return { points: loan.read(kind.Points, out, 2 * left), offsets: loan.read(Uint32Array, outOffsets, from.length) };
+            const { length } = given.offsets[0];
+            const outOffsets = loan.take(4 * length);
+            const left = this.#answered(this.#call(name, kind)(...given.ringWords, out, countOf(points), outOffsets, length), given);
+            return { points: loan.read(kind.Points, out, 2 * left), offsets: loan.read(Uint32Array, outOffsets, length) };
         });
     }
 

@@ -13,7 +13,7 @@ function isOf(name, given) {
     return typeof globalThis[name] === "function" && given instanceof globalThis[name];
 }
 
-/** Answers the module of a URL, of what `fetch` gives, or of bytes. */
+/** Returns the module of a URL, of what `fetch` gives, or of bytes. */
 async function compiledFrom(given) {
     if (isOf("URL", given) && given.protocol === "file:") return WebAssembly.compile(await readFile(given));
     const bytes = isOf("URL", given) ? await fetch(given) : given;
@@ -29,6 +29,9 @@ export async function compiled(source) {
         return await compiledFrom(given);
     } catch (error) {
         const url = isOf("URL", given) ? given.href : isOf("Response", given) ? given.url : "";
-        throw url ? new Error(`${url}: ${error.message}`, { cause: error }) : error;
+        if (url) throw new Error(`${url}: ${error.message}`, { cause: error });
+        // Of what isn't bytes, an engine says that its own function was called wrongly.
+        if (error instanceof TypeError && !isOf("Response", given)) throw new TypeError("load() takes a URL, a Response, bytes or a WebAssembly.Module", { cause: error });
+        throw error;
     }
 }

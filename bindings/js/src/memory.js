@@ -44,7 +44,7 @@ class Loan {
         return address;
     }
 
-    /** Answers a copy of the items at an address. */
+    /** Returns a copy of the items at an address. */
     read(Items, address, length) {
         return this.#view(Items, address, length).slice();
     }
@@ -54,7 +54,7 @@ class Loan {
     }
 }
 
-/** Answers what `use` answers of a loan, which ends then, whatever `use` throws. */
+/** Returns what `use` returns of a loan, which ends then, whatever `use` throws. */
 export function borrow(exports, use) {
     const loan = new Loan(exports);
     try {

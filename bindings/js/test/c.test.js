@@ -9,7 +9,7 @@ import { noFirefox, readInFirefox } from "./support/firefox.js";
 const MODULE = process.env.I_SHAPE_C_TESTS;
 const NO_MODULE = !MODULE && "there is no module of the tests of C";
 
-/** Runs the module, and answers its status and what it has printed. It is handed to a browser as text, too. */
+/** Runs the module, and returns its status and what it has printed. It is handed to a browser as text, too. */
 async function run(bytes) {
     const { exports } = (await WebAssembly.instantiate(bytes)).instance;
     const status = exports.run();

@@ -2,7 +2,7 @@ import assert from "node:assert/strict";
 import { test } from "node:test";
 import { describeWidths } from "./support/modules.js";
 
-// Worked contours: what each cleaner leaves, what each test answers, and twice the area.
+// Worked contours: what each cleaner leaves, what each test returns, and twice the area.
 const CONTOURS = [
     {
         name: "a square",

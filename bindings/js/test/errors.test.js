@@ -8,6 +8,8 @@ const RINGS = ["simplifyRings", "despikeRings", "canonicalRings", "canonicalUnor
 const RING_TESTS = ["isSimpleRings", "hasNoSpikesRings", "isConvexRings", "areSimplePolygons", "firstContactOfRings"];
 const RINGS_OF_ANY_POINTS = ["isSafeRings", "areaTwoRings"];
 const POLYGONS = ["simplifyPolygons", "removeSpikes", "canonicalPolygons", "canonicalUnorientedPolygons", "polygonValidity"];
+// Calls on rings whose results are divided among polygons.
+const BY_RINGS = ["canonicalKeys", "areaTwoPolygons"];
 const ABOUT_MANY = ["windingNumbers", "containsPoints", "locate"];
 const SQUARE = [0, 0, 4, 0, 4, 4, 0, 4];
 
@@ -28,8 +30,9 @@ describeWidths((shapes, { points, number, limit, bits, Points }) => {
     /** Calls on many rings, by the offsets of the points. */
     const calls = [
         ...[...RINGS, ...RING_TESTS].map((name) => ({ name, call: (from, offsets) => shapes[name](from, offsets) })),
-        ...POLYGONS.map((name) => ({ name, call: (from, offsets) => shapes[name](from, offsets, [0]) })),
+        ...[...POLYGONS, "canonicalKeys"].map((name) => ({ name, call: (from, offsets) => shapes[name](from, offsets, [0]) })),
         ...ABOUT_MANY.map((name) => ({ name, call: (from, offsets) => shapes[name](from, offsets, points([])) })),
+        { name: "locateInPolygons", call: (from, offsets) => shapes.locateInPolygons(from, offsets, [0], points([])) },
     ];
 
     for (const { name, call } of calls) {
@@ -57,12 +60,22 @@ describeWidths((shapes, { points, number, limit, bits, Points }) => {
             assert.deepEqual(shapes[name](from, [0, 1, 4]), told[name]);
         });
     }
-    for (const name of POLYGONS) {
+    const byPolygons = [
+        ...[...POLYGONS, ...BY_RINGS].map((name) => ({ name, call: (offsets) => shapes[name](square, [0, 1, 2, 3, 4], offsets) })),
+        { name: "locateInPolygons", call: (offsets) => shapes.locateInPolygons(square, [0, 1, 2, 3, 4], offsets, square) },
+    ];
+    for (const { name, call } of byPolygons) {
         for (const row of WRONG_OFFSETS) {
-            test(`${name}: ${row.name} of polygons`, () =>
-                assert.throws(() => shapes[name](square, [0, 1, 2, 3, 4], row.offsets), { name: "OffsetsError", code: -2, place: row.place }));
+            test(`${name}: ${row.name} of polygons`, () => assert.throws(() => call(row.offsets), { name: "OffsetsError", code: -2, place: row.place }));
         }
     }
+
+    test("canonicalKeys: offsets of polygons are tested before a ring is cleaned", () => {
+        const from = square.slice();
+        from[5] = limit;
+        assert.throws(() => shapes.canonicalKeys(from, [0, 4], [0, 2]), { name: "OffsetsError", message: "polygonOffsets[1] is 2, above the count, 1" });
+        assert.throws(() => shapes.canonicalKeys(from, [0, 5], [0, 1]), { name: "OffsetsError", message: "ringOffsets[1] is 5, above the count, 4" });
+    });
 
     for (const name of ONE) {
         for (const coordinate of [limit, -limit]) {
@@ -94,9 +107,15 @@ describeWidths((shapes, { points, number, limit, bits, Points }) => {
             assert.throws(() => shapes[name](square, [0, 4], bits === 16 ? Int32Array.of(0, 0) : Int16Array.of(0, 0)), TypeError);
         });
     }
-    for (const name of ["containsPoints", "locate"]) {
+    test("locateInPolygons: points asked about that aren't safe, or of another type", () => {
+        const asked = (about) => () => shapes.locateInPolygons(square, [0, 4], [0, 1], about);
+        assert.throws(asked(Points.of(limit, number(0))), { name: "UnsafePointError", code: -1, point: undefined });
+        assert.throws(asked(bits === 16 ? Int32Array.of(0, 0) : Int16Array.of(0, 0)), TypeError);
+        assert.throws(asked(points([0, 0, 4])), RangeError);
+    });
+    for (const [name, ...offsets] of [["containsPoints", [0, 4]], ["locate", [0, 4]], ["locateInPolygons", [0, 4], [0, 1]]]) {
         test(`${name}: no such rule`, () => {
-            for (const rule of ["even-odd", null, 0, 4]) assert.throws(() => shapes[name](square, [0, 4], square, rule), RangeError);
+            for (const rule of ["even-odd", null, 0, 4]) assert.throws(() => shapes[name](square, ...offsets, square, rule), RangeError);
         });
     }
     test("contains: no such rule", () => assert.throws(() => shapes.contains(square, number(1), number(1), "even-odd"), RangeError));

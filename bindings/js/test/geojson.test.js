@@ -3,7 +3,7 @@ import assert from "node:assert/strict";
 import { readFileSync } from "node:fs";
 import { describe, test } from "node:test";
 import { fromGeoJson, load, toGeoJson } from "../src/i_shape.js";
-import { MODULE, describeWidths } from "./support/modules.js";
+import { MODULE, WIDTHS, describeWidths } from "./support/modules.js";
 
 const SQUARE = { type: "Polygon", coordinates: [[[0, 0, 7], [0.4, 0, 7], [0.4, 0.4, 7], [0, 0.4, 7], [0, 0, 7]], [[0.1, 0.1], [0.1, 0.3], [0.3, 0.3], [0.1, 0.1]]] };
 const cycle = [];
@@ -35,6 +35,26 @@ describe("GeoJSON", () => {
         const polygons = fromGeoJson(triangle(3), { step: 1.5, Points: BigInt64Array });
         assert.deepEqual(polygons.points, BigInt64Array.of(2n, 0n, 6n, 0n, 6n, 6n));
         assert.deepEqual(toGeoJson(polygons, { step: 1.5 }).coordinates[0][0][0], [3, 0]);
+    });
+
+    test("each row of bindings/grid.txt, which all languages are tested with", () => {
+        const lines = readFileSync(new URL("../../grid.txt", import.meta.url), "utf8").split("\n").filter((line) => line && !line.startsWith("#"));
+        assert.ok(lines.length > 500);
+        for (const line of lines) {
+            const [step, x, k, back, width] = line.split("\t");
+            const given = { type: "Polygon", coordinates: [[[Number(x), Number(x)]]] };
+            for (const { bits, Points, number } of WIDTHS) {
+                const options = { step: Number(step), Points };
+                if (width === "-" || Number(width) > bits) {
+                    assert.throws(() => fromGeoJson(given, options), { name: "UnsafePointError" }, line);
+                    continue;
+                }
+                const polygons = fromGeoJson(given, options);
+                assert.deepEqual(polygons.points, Points.of(number(k), number(k)), line);
+                const [[[[there]]]] = toGeoJson(polygons, { step: Number(step) }).coordinates;
+                if (back !== "-") assert.ok(Object.is(there, Number(back)), line);
+            }
+        }
     });
 
     test("a coordinate out of the safe range is named", () => {

@@ -87,6 +87,13 @@ describe("loading", () => {
         await assert.rejects(load(url), (error) => error.message.startsWith(url.href) && error.cause.code === "ENOENT");
     });
 
+    test("what load takes is named", async () => {
+        for (const source of ["none.wasm", { module: 1 }, null]) {
+            await assert.rejects(load(source), { name: "TypeError", message: /^load\(\) takes a URL, / });
+        }
+        await assert.rejects(load(new Uint8Array(4)), { name: "CompileError" });
+    });
+
     const bundling = { skip: isQuick || (spawnSync("esbuild", ["--version"]).status !== 0 && "there is no esbuild") };
     for (const [loader, source, packed] of [
         ["file", "new URL(module, import.meta.url)", 2],

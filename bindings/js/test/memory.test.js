@@ -26,6 +26,7 @@ function callsOf(shapes, { points, number }) {
     for (const name of ["simplifyPolygons", "removeSpikes", "canonicalPolygons", "canonicalUnorientedPolygons"]) {
         calls[name] = () => shapes[name](rings, OFFSETS, POLYGONS);
     }
+    calls.locateInPolygons = () => shapes.locateInPolygons(rings, OFFSETS, POLYGONS, rings);
     calls.compactPolygons = () => shapes.compactPolygons(OFFSETS, POLYGONS);
     return calls;
 }
@@ -121,7 +122,7 @@ describe("memory", async () => {
         assert.equal(sizesOf(limited(MODULE, 100)).at(-1), sizes[0] + 100 * 65536);
     });
 
-    // Points that fill the pages which the memory may grow by, in each way: those of the caller are refused, or those of the library.
+    // Points that fill the pages which the memory may grow by, in each way: those of the caller fail, or those of the library.
     for (const width of WIDTHS) {
         const count = 16384;
         const contour = width.points(Array.from({ length: count }, (_, k) => [k >> 2, (k >> 1) % 2]).flat());
@@ -140,9 +141,9 @@ describe("memory", async () => {
             canonicalPolygons: (it) => it.canonicalPolygons(contour, offsets, [0, 512, 1024]),
             canonicalUnorientedPolygons: (it) => it.canonicalUnorientedPolygons(contour, offsets, [0, 512, 1024]),
         })) {
-            test(`${name} at ${width.bits} bits: refused memory is told, and nothing is held`, async () => {
+            test(`${name} at ${width.bits} bits: a failed allocation is an error, and nothing is held`, async () => {
                 const wanted = call(shapes);
-                let refusals = 0;
+                let failures = 0;
                 for (let pages = 0; pages <= 256; pages = pages < 8 ? pages + 1 : 2 * pages) {
                     const scarce = await load(limited(MODULE, pages));
                     try {
@@ -150,12 +151,12 @@ describe("memory", async () => {
                     } catch (error) {
                         if (!(error instanceof OutOfMemoryError)) throw error;
                         assert.equal(error.code, -3);
-                        refusals++;
+                        failures++;
                     }
                     assert.equal(scarce.heldBytes, 0);
                     assert.equal(scarce.simplify(width.points([0, 0, 4, 0, 4, 4])).length, 6, "and small calls go on");
                 }
-                assert.ok(refusals > 1);
+                assert.ok(failures > 1);
             });
         }
     }
@@ -192,7 +193,7 @@ describe("memory", async () => {
     });
 
     // What no call of load's object does: a pointer out of memory is a trap.
-    test("a call after a trap answers as before", () => {
+    test("a call after a trap returns what it did before", () => {
         const exports = new WebAssembly.Instance(new WebAssembly.Module(MODULE)).exports;
         assert.throws(() => exports.i_shape_is_safe_i32(2 ** 31, 8), WebAssembly.RuntimeError);
         assert.equal(exports.i_shape_version(), 0x000200);

@@ -49,7 +49,7 @@ function coastlines(grid, limit) {
         }));
 }
 
-/** The contours at a width, and the lines that the native library answers. */
+/** The contours at a width, and the lines that the native library returns. */
 const asked = new Map();
 
 function askedAt(bits) {
@@ -64,7 +64,7 @@ function askedAt(bits) {
     return asked.get(bits);
 }
 
-/** What a call answers, or the code of its error. */
+/** What a call returns, or the code of its error. */
 function answerOf(call) {
     try {
         return call();
@@ -118,7 +118,7 @@ function answers(shapes, contours, { bits, Points, number }) {
 
 describeWidths((shapes, width) => {
     const skip = !PROGRAMS && "there is no program of the native library";
-    test(`${COUNT} random contours, and coastlines, as the native library answers`, { skip }, () => {
+    test(`${COUNT} random contours, and coastlines, as by the native library`, { skip }, () => {
         const { contours, native } = askedAt(width.bits);
         const own = [...answers(shapes, contours, width), ""];
         const place = own.findIndex((line, k) => line !== native[k]);

@@ -1,5 +1,6 @@
 import assert from "node:assert/strict";
 import { test } from "node:test";
+import { FILL_RULES } from "../src/i_shape.js";
 import { describeWidths } from "./support/modules.js";
 
 // A square with three holes, of which one collapses; a polygon that collapses, with a hole; one without rings; and a triangle.
@@ -95,7 +96,84 @@ function many(outer, toArray, toPoints) {
     };
 }
 
+// A polygon without rings, a square with a hole, one beside it, and one with a hole that overlaps both of them and turns the other way.
+const HOLDERS = {
+    points: [0, 0, 4, 0, 4, 4, 0, 4, /**/ 1, 1, 1, 2, 2, 2, 2, 1, /**/ 4, 0, 8, 0, 8, 4, 4, 4, /**/ 6, 0, 6, 4, 10, 4, 10, 0, /**/ 8, 1, 9, 1, 9, 2, 8, 2],
+    ringOffsets: [0, 4, 8, 12, 16, 20],
+    polygonOffsets: [0, 0, 2, 3, 5],
+    // vertices and edges, inside, and outside
+    about: [[0, 0], [4, 0], [4, 4], [2, 0], [4, 2], [0, 2], [1, 1], [2, 2], [1, 2], [3, 3], [7, 1], [9, 3], [8, 1], [9, 1], [11, 1], [-1, -1]],
+};
+
+/** How often a ring winds about a point: the edges that pass its height upwards, to the right of it, less those downwards. */
+function winding(ring, [x, y]) {
+    return ring.reduce((sum, [ax, ay], k) => {
+        const [bx, by] = ring[(k + 1) % ring.length];
+        const side = (bx - ax) * (y - ay) - (by - ay) * (x - ax);
+        return sum + Number(ay <= y && y < by && side > 0) - Number(by <= y && y < ay && side < 0);
+    }, 0);
+}
+
+const FILLS = { evenodd: (turns) => turns % 2 !== 0, nonzero: (turns) => turns !== 0, positive: (turns) => turns > 0, negative: (turns) => turns < 0 };
+
+/** The first of the polygons, lists of rings, that a rule fills at a point, or -1. */
+function holderOf(polygons, point, rule) {
+    return polygons.findIndex((rings) => FILLS[rule](rings.reduce((sum, ring) => sum + winding(ring, point), 0)));
+}
+
+/** The items that offsets divide, a list for each part. */
+function parted(items, offsets) {
+    return offsets.slice(1).map((end, k) => items.slice(offsets[k], end));
+}
+
+/** Polygons of a small grid, of numbers that look random. */
+function randomPolygons(seed) {
+    let state = seed;
+    const below = (bound) => (state = (Math.imul(state, 1664525) + 1013904223) >>> 0) % 65521 % bound;
+    const few = (most, make) => Array.from({ length: below(most + 1) }, make);
+    return few(6, () => {
+        const [x, y] = [below(5), below(5)];
+        return few(3, () => few(6, () => [x + below(5), y + below(5)]));
+    });
+}
+
 describeWidths((shapes, { points }) => {
+    test("locateInPolygons: four polygons, by each rule", () => {
+        const { ringOffsets, polygonOffsets, about } = HOLDERS;
+        const coordinates = parted(HOLDERS.points, Array.from({ length: HOLDERS.points.length / 2 + 1 }, (_, k) => 2 * k));
+        const polygons = parted(parted(coordinates, ringOffsets), polygonOffsets);
+        for (const rule of FILL_RULES) {
+            const wanted = Int32Array.from(about, (point) => holderOf(polygons, point, rule));
+            assert.deepEqual(shapes.locateInPolygons(points(HOLDERS.points), ringOffsets, polygonOffsets, points(about.flat()), rule), wanted, rule);
+        }
+        assert.deepEqual(
+            shapes.locateInPolygons(points(HOLDERS.points), ringOffsets, polygonOffsets, points([0, 0, 4, 2, 1, 1, 7, 1, 11, 1])),
+            Int32Array.of(1, 2, -1, 2, -1),
+            "the rule that is taken where none is given",
+        );
+    });
+    test("locateInPolygons: polygons of a small grid", () => {
+        const about = Array.from({ length: 144 }, (_, k) => [(k % 12) - 1, Math.floor(k / 12) - 1]);
+        for (let seed = 1; seed <= 100; seed++) {
+            const polygons = randomPolygons(seed);
+            const rings = polygons.flat();
+            const given = [
+                points(rings.flat(2)),
+                [0, ...rings.map((_, k) => rings.slice(0, k + 1).flat().length)],
+                [0, ...polygons.map((_, k) => polygons.slice(0, k + 1).flat().length)],
+            ];
+            for (const rule of FILL_RULES) {
+                const wanted = Int32Array.from(about, (point) => holderOf(polygons, point, rule));
+                assert.deepEqual(shapes.locateInPolygons(...given, points(about.flat()), rule), wanted, JSON.stringify(polygons));
+            }
+        }
+    });
+    test("locateInPolygons: no polygon, no ring, no point", () => {
+        assert.deepEqual(shapes.locateInPolygons(points([]), [0], [0], points([1, 1])), Int32Array.of(-1));
+        assert.deepEqual(shapes.locateInPolygons(points([]), [0, 0], [0, 0, 1], points([1, 1])), Int32Array.of(-1));
+        assert.deepEqual(shapes.locateInPolygons(points(HOLDERS.points), HOLDERS.ringOffsets, HOLDERS.polygonOffsets, points([])), new Int32Array(0));
+        assert.equal(shapes.heldBytes, 0);
+    });
     test("compactPolygons: four polygons", () => {
         const { offsets } = shapes.simplifyRings(points(GIVEN.points), GIVEN.ringOffsets);
         const left = { polygons: Uint32Array.of(0, 2, 3), rings: Uint32Array.of(0, 1, 3, 6), offsets: Uint32Array.of(0, 3, 3, 4) };

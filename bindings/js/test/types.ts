@@ -1,4 +1,4 @@
-/** What i_shape.d.ts lets through, and what it refuses; compiled by tsc, and not run. */
+/** What i_shape.d.ts lets through, and what it rejects; compiled by tsc, and not run. */
 import {
     CollapsedError, FILL_RULES, GeoJsonError, IShapeError, OffsetsError, UnsafePointError, fromGeoJson, load, toGeoJson,
     type FillRule, type IShape, type Polygons, type Rings,
@@ -70,9 +70,12 @@ async function rings(shapes: IShape): Promise<void> {
     const rules: readonly FillRule[] = FILL_RULES;
     const filled: boolean[][] = rules.map((rule) => shapes.containsPoints(points, [0, 1], points, rule));
     const located: Int8Array = shapes.locate(polygons.points, polygons.ringOffsets, points);
-    console.log(told, areas, windings, filled, located);
+    const holders: Int32Array = shapes.locateInPolygons(polygons.points, polygons.ringOffsets, polygons.polygonOffsets, points, "nonzero");
+    console.log(told, areas, windings, filled, located, holders);
     // @ts-expect-error: no such rule
     shapes.locate(points, [0, 1], points, "even-odd");
+    // @ts-expect-error: points of two widths
+    shapes.locateInPolygons(points, [0, 1], [0, 1], BigInt64Array.of(0n, 0n));
     // @ts-expect-error: points of two widths
     shapes.windingNumbers(points, [0, 1], Int16Array.of(0, 0));
 }

@@ -1,4 +1,4 @@
-/* Reads contours from standard input, each a line: how many points, a point to ask about, and the points. Writes what the library answers of each and, as
+/* Reads contours from standard input, each a line: how many points, a point to ask about, and the points. Writes what the library returns of each and, as
  * rings and as polygons, of all that are safe together. The width is WIDTH: 16, 32 or 64. native.test.js writes the same by the WebAssembly modules. */
 #include <i_shape.h>
 #include <inttypes.h>

@@ -22,7 +22,7 @@ export const isQuick = Boolean(process.env.QUICK_TESTS) && "QUICK_TESTS is set";
 /** Why no Chromium opens a page here, or false. */
 export const noChromium = isQuick || (spawnSync("chromium", [...WORDS, "--dump-dom", "about:blank"], { timeout: PATIENCE }).status !== 0 && "there is no chromium");
 
-/** Serves the files of a folder, but for requests that `takes` answers, and answers the server and the address of the folder. */
+/** Serves the files of a folder, but for requests that `takes` handles, and returns the server and the address of the folder. */
 export async function serve(folder, takes = () => false) {
     const server = http.createServer((request, response) => {
         if (takes(request, response)) return;
@@ -111,7 +111,7 @@ export class Browser {
         await this.send("Emulation.setDeviceMetricsOverride", { width, height, deviceScaleFactor: 1, mobile: false });
     }
 
-    /** Answers the value of an expression in the page, awaited. */
+    /** Returns the value of an expression in the page, awaited. */
     async read(expression) {
         const { result, exceptionDetails } = await this.send("Runtime.evaluate", { expression, awaitPromise: true, returnByValue: true });
         if (exceptionDetails) throw new Error(exceptionDetails.exception?.description ?? exceptionDetails.text);

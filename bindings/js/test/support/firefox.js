@@ -1,4 +1,4 @@
-/** Debian's Firefox without a window. Its page tells by a request what a script answers there, so that no protocol has to drive it. */
+/** Debian's Firefox without a window. Its page sends what a script returns there in a request, so that no protocol has to drive it. */
 import { spawn, spawnSync } from "node:child_process";
 import { mkdtempSync, rmSync } from "node:fs";
 import os from "node:os";
@@ -36,7 +36,7 @@ function pageOf(script) {
     </script>`;
 }
 
-/** What a script answers, as JSON keeps it, in a page beside the files of a folder. */
+/** What a script returns, as JSON keeps it, in a page beside the files of a folder. */
 export async function readInFirefox(folder, script) {
     const home = mkdtempSync(path.join(os.tmpdir(), "firefox-"));
     let hear, fail;

@@ -3,7 +3,7 @@
 const MEMORY_SECTION = 5;
 const HAS_GREATEST_SIZE = 1;
 
-/** Reads a number of WebAssembly (LEB128) at a place, and answers it with the place behind it. */
+/** Reads a number of WebAssembly (LEB128) at a place, and returns it with the place behind it. */
 function readNumber(bytes, place) {
     let number = 0;
     for (let shift = 0; ; shift += 7) {
@@ -19,7 +19,7 @@ function written(number) {
     return [...bytes, number];
 }
 
-/** Answers the size of a module's memory at its start, and its bytes with that of the greatest size, in pages of 64 KiB. */
+/** Returns the size of a module's memory at its start, and its bytes with that of the greatest size, in pages of 64 KiB. */
 export function limited(bytes, morePages) {
     for (let place = 8; place < bytes.length;) {
         const [size, begin] = readNumber(bytes, place + 1);
