@@ -38,7 +38,7 @@ static void check_for_interrupts(void *unused) {
 
 static const Pause let_interrupt = {check_for_interrupts, NULL};
 
-/* ---- refusals ---- */
+/* ---- errors ---- */
 
 static int code_of(FaultKind kind) {
     switch (kind) {
@@ -50,7 +50,7 @@ static int code_of(FaultKind kind) {
 }
 
 /* Of what isn't fine, where wanted names the type that is. */
-static void refuse(const Fault *fault, const char *wanted) {
+static void raise_fault(const Fault *fault, const char *wanted) {
     char text[FAULT_SIZE];
     if (fault->kind == FINE) return;
     put_fault(fault, wanted, text);
@@ -59,16 +59,16 @@ static void refuse(const Fault *fault, const char *wanted) {
             is_curve ? errhint("Use ST_CurveToLine first.") : fault->kind == HAS_Z_OR_M ? errhint("Use ST_Force2D first.") : 0);
 }
 
-static void refuse_memory(void) {
+static void raise_no_memory(void) {
     ereport(ERROR, errcode(ERRCODE_OUT_OF_MEMORY), errmsg("i_shape: out of memory"));
 }
 
-/* ---- arguments and answers ---- */
+/* ---- arguments and results ---- */
 
 static Grid grid_of(float8 step) {
     Grid grid;
     if (!make_grid(step, &grid))
-        ereport(ERROR, errcode(ERRCODE_INVALID_PARAMETER_VALUE), errmsg("i_shape: step is %g, and a finite number above 0 is needed", step));
+        ereport(ERROR, errcode(ERRCODE_INVALID_PARAMETER_VALUE), errmsg("i_shape: step is %g, not a finite number above 0", step));
     return grid;
 }
 
@@ -85,17 +85,17 @@ static Geometry geometry_of(const bytea *wkb, Grid grid) {
     Geometry geometry;
     Counts counts;
     Fault fault = count_wkb(VARDATA_ANY(wkb), VARSIZE_ANY_EXHDR(wkb), let_interrupt, &counts);
-    refuse(&fault, "Polygon or a MultiPolygon");
+    raise_fault(&fault, "Polygon or a MultiPolygon");
     take_block(&geometry, counts);
     fault = read_wkb(VARDATA_ANY(wkb), VARSIZE_ANY_EXHDR(wkb), grid, let_interrupt, &geometry);
-    refuse(&fault, "Polygon or a MultiPolygon");
+    raise_fault(&fault, "Polygon or a MultiPolygon");
     return geometry;
 }
 
 static Geometry cleaned(Cleaner *cleaner, const Geometry *given) {
     Geometry left;
     take_block(&left, given->counts);
-    if (!clean_polygons(cleaner, given, let_interrupt, &left)) refuse_memory();
+    if (!clean_polygons(cleaner, given, let_interrupt, &left)) raise_no_memory();
     return left;
 }
 
@@ -203,7 +203,7 @@ CALL(pg_i_shape_has_no_spikes) {
 static Invalidity invalidity_of(const Geometry *geometry) {
     Invalidity found;
     size_t *offsets = MemoryContextAllocHuge(CurrentMemoryContext, (geometry->counts.rings + 1) * sizeof(size_t));
-    if (!find_invalidity(geometry, let_interrupt, offsets, &found)) refuse_memory();
+    if (!find_invalidity(geometry, let_interrupt, offsets, &found)) raise_no_memory();
     pfree(offsets);
     return found;
 }
@@ -244,7 +244,7 @@ CALL(pg_i_shape_area_two) {
 static bool place_of(const bytea *wkb, Grid grid, i_shape_point_i64 *place, int32 *srid) {
     double xy[2];
     Fault fault = read_point_wkb(VARDATA_ANY(wkb), VARSIZE_ANY_EXHDR(wkb), xy, srid);
-    refuse(&fault, "Point");
+    raise_fault(&fault, "Point");
     if (isnan(xy[0]) && isnan(xy[1])) return false;
     if (!to_grid(xy, grid, place))
         ereport(ERROR, errcode(ERRCODE_NUMERIC_VALUE_OUT_OF_RANGE),

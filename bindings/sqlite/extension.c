@@ -26,7 +26,7 @@ static _Noreturn void end_call(Call *call, int code) {
     longjmp(call->end, 1);
 }
 
-static _Noreturn void refuse(Call *call, const char *format, ...) {
+static _Noreturn void end_with_error(Call *call, const char *format, ...) {
     va_list words;
     va_start(words, format);
     char *text = sqlite3_vmprintf(format, words);
@@ -83,37 +83,37 @@ static Grid grid_of(Call *call, sqlite3_value *value) {
     double step = sqlite3_value_double(value);
     Grid grid;
     char text[FLOAT_SIZE];
-    if (type != SQLITE_INTEGER && type != SQLITE_FLOAT) refuse(call, "i_shape: step is %s, and a finite number above 0 is needed", kind_of(value));
+    if (type != SQLITE_INTEGER && type != SQLITE_FLOAT) end_with_error(call, "i_shape: step is %s, not a finite number above 0", kind_of(value));
     if (make_grid(step, &grid)) return grid;
     put_float(step, text);
-    refuse(call, "i_shape: step is %s, and a finite number above 0 is needed", text);
+    end_with_error(call, "i_shape: step is %s, not a finite number above 0", text);
 }
 
 static bool is_oriented(Call *call, sqlite3_value *value) {
-    if (sqlite3_value_type(value) != SQLITE_INTEGER) refuse(call, "i_shape: oriented is %s, and 0 or 1 is needed", kind_of(value));
+    if (sqlite3_value_type(value) != SQLITE_INTEGER) end_with_error(call, "i_shape: oriented is %s, not 0 or 1", kind_of(value));
     sqlite3_int64 number = sqlite3_value_int64(value);
-    if (number != 0 && number != 1) refuse(call, "i_shape: oriented is %lld, and 0 or 1 is needed", number);
+    if (number != 0 && number != 1) end_with_error(call, "i_shape: oriented is %lld, not 0 or 1", number);
     return number == 1;
 }
 
 static Blob blob_of(Call *call, const char *name, sqlite3_value *value) {
     if (sqlite3_value_type(value) != SQLITE_BLOB)
-        refuse(call, "i_shape: %s is %s, and a blob of WKB, GeoPackage or SpatiaLite is needed", name, kind_of(value));
+        end_with_error(call, "i_shape: %s is %s, not a blob of WKB, GeoPackage or SpatiaLite", name, kind_of(value));
     const void *bytes = sqlite3_value_blob(value);
     size_t size = (size_t)sqlite3_value_bytes(value);
     Blob blob;
     if (!bytes && size > 0) end_call(call, SQLITE_NOMEM);
     const char *fault = open_blob(bytes ? bytes : "", size, &blob);
     if (!fault && blob.form == SPATIALITE) fault = copy_wkb(&blob, take(call, blob.wkb_size));
-    if (fault) refuse(call, "i_shape: %s", fault);
+    if (fault) end_with_error(call, "i_shape: %s", fault);
     return blob;
 }
 
-static void refuse_fault(Call *call, Fault fault, const char *wanted) {
+static void end_with_fault(Call *call, Fault fault, const char *wanted) {
     char text[FAULT_SIZE];
     if (fault.kind == FINE) return;
     put_fault(&fault, wanted, text);
-    refuse(call, "i_shape: %s", text);
+    end_with_error(call, "i_shape: %s", text);
 }
 
 static Geometry room_for(Call *call, Counts counts) {
@@ -135,9 +135,9 @@ static Given given_by(Call *call, sqlite3_value *geom, sqlite3_value *step) {
     Blob *blob = &given.blob;
     Counts counts;
     *blob = blob_of(call, "geom", geom);
-    refuse_fault(call, count_wkb(blob->wkb, blob->wkb_size, pause_of(call), &counts), wanted);
+    end_with_fault(call, count_wkb(blob->wkb, blob->wkb_size, pause_of(call), &counts), wanted);
     given.geometry = room_for(call, counts);
-    refuse_fault(call, read_wkb(blob->wkb, blob->wkb_size, given.grid, pause_of(call), &given.geometry), wanted);
+    end_with_fault(call, read_wkb(blob->wkb, blob->wkb_size, given.grid, pause_of(call), &given.geometry), wanted);
     return given;
 }
 
@@ -262,7 +262,7 @@ static void measure_area(Call *call, int count, sqlite3_value **values) {
     (void)count;
     Given given = given_by(call, values[0], values[1]);
     __int128 area = area_two(&given.geometry, pause_of(call));
-    if (area > INT64_MAX || area < INT64_MIN) refuse(call, "i_shape: twice the area needs more than 64 bits, which an integer has");
+    if (area > INT64_MAX || area < INT64_MIN) end_with_error(call, "i_shape: twice the area needs more than 64 bits, which an integer has");
     sqlite3_result_int64(call->context, (sqlite3_int64)area);
 }
 
@@ -271,13 +271,13 @@ static bool place_of(Call *call, sqlite3_value *point, Grid grid, i_shape_point_
     Blob blob = blob_of(call, "point", point);
     double xy[2];
     char x[FLOAT_SIZE], y[FLOAT_SIZE];
-    refuse_fault(call, read_point_wkb(blob.wkb, blob.wkb_size, xy, srid), "Point");
+    end_with_fault(call, read_point_wkb(blob.wkb, blob.wkb_size, xy, srid), "Point");
     if (blob.form != PLAIN) *srid = blob.srid;
     if (isnan(xy[0]) && isnan(xy[1])) return false;
     if (to_grid(xy, grid, place)) return true;
     put_float(xy[0], x);
     put_float(xy[1], y);
-    refuse(call, "i_shape: the point (%s, %s) is 2^49 steps or more from 0, or isn't finite", x, y);
+    end_with_error(call, "i_shape: the point (%s, %s) is 2^49 steps or more from 0, or isn't finite", x, y);
 }
 
 static void count_windings(Call *call, int count, sqlite3_value **values) {
@@ -286,7 +286,7 @@ static void count_windings(Call *call, int count, sqlite3_value **values) {
     i_shape_point_i64 place;
     int32_t srid, own_srid = given.blob.form == PLAIN ? given.geometry.srid : given.blob.srid;
     bool is_there = place_of(call, values[1], given.grid, &place, &srid);
-    if (own_srid != srid) refuse(call, "i_shape: the SRID of the polygon is %d, and that of the point %d", own_srid, srid);
+    if (own_srid != srid) end_with_error(call, "i_shape: the SRID of the polygon is %d, and that of the point %d", own_srid, srid);
     if (is_there) sqlite3_result_int64(call->context, winding(&given.geometry, place, pause_of(call)));
 }
 

@@ -61,7 +61,7 @@ CREATE EXTENSION i_shape SCHEMA gis;
 SELECT gis.i_shape_is_clean('POLYGON((0 0,4 0,4 4,0 0))'::gis.geometry, 1e-7);
 DROP EXTENSION i_shape;
 
-\echo created by a role that is no superuser, and refused where that has a function of its own, not called
+\echo created by a role that is no superuser, and an error where that has a function of its own, not called
 CREATE ROLE regress_owner;
 GRANT CREATE ON DATABASE regress_trust TO regress_owner;
 GRANT USAGE ON SCHEMA gis TO regress_owner;

@@ -187,8 +187,8 @@ class _Algorithm(QgsProcessingAlgorithm):
             elif others != "drop":
                 if its is not None and others == "error":
                     raise QgsProcessingException(
-                        f"fid {feature.id()}: a Polygon or a MultiPolygon of"
-                        " two coordinates a point is needed, not a"
+                        f"fid {feature.id()}: expected a Polygon or a"
+                        " MultiPolygon of two coordinates a point, not a"
                         f" {QgsWkbTypes.displayString(its.wkbType())}; keep"
                         " or drop others to allow it")
                 if its is not None and _loses(its.wkbType(), kind):

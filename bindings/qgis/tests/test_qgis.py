@@ -242,7 +242,7 @@ class QgisTest(unittest.TestCase):
         out = self.work / "out.gpkg"
         status, told = self.ask_qgis("dedup", given, out, "STEP=0.5")
         self.assertNotEqual(status, 0)
-        self.assertIn("fid 3: a Polygon or a MultiPolygon of two coordinates a point is needed, not a Point", told)
+        self.assertIn("fid 3: expected a Polygon or a MultiPolygon of two coordinates a point, not a Point", told)
         self.assertFalse(out.exists())
         self.assertEqual(len(self.same("despike", given, ["--others", "drop"], ["OTHERS=drop"])), 1)
         status, told = self.ask_qgis("despike", given, out, "STEP=0.5", "OTHERS=keep")
@@ -284,16 +284,16 @@ class QgisTest(unittest.TestCase):
         out = self.work / "out.gpkg"
         status, told = self.ask_qgis("validity", given, out, "STEP=0.5")
         self.assertNotEqual(status, 0)
-        self.assertIn("fid 3: a Polygon or a MultiPolygon of two coordinates a point is needed, not a PolygonZ", told)
+        self.assertIn("fid 3: expected a Polygon or a MultiPolygon of two coordinates a point, not a PolygonZ", told)
         self.assertFalse(out.exists())
         for others in ("keep", "drop"):
             with self.subTest(others=others):
                 self.assertEqual([row[0] for row in self.rows(self.qgis("validity", given, f"{others}.gpkg", f"OTHERS={others}"), "reason")[1]], [2])
 
-    def test_refused(self):
+    def test_errors(self):
         """A step is needed and above 0, and coordinates within the safe range of it; the package must be there."""
         given, out = self.package([feature(2, "Polygon", [SPIKE])]), self.work / "out.gpkg"
-        for words, said in (([], "STEP"), (["STEP=0"], "step is 0.0: a finite number above 0 is needed"),
+        for words, said in (([], "STEP"), (["STEP=0"], "step is 0.0, not a finite number above 0"),
                             (["STEP=1e-20"], "fid 2, polygon 0, ring 0, point 1: x is 4.0")):
             with self.subTest(words=words):
                 status, told = self.ask_qgis("simplify", given, out, *words)

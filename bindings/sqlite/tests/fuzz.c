@@ -1,9 +1,9 @@
 /* COUNT mutated blobs of random polygons, and a quarter as many as they are, in each form through the calls in SQLite, for the address sanitizer: each blob
  * ends where its memory does. What is left is compared with itself when it is read again, and its key with that of the blob. Then each growth of SQLite and of
- * the C library is refused in turn. usage: fuzz COUNT */
+ * the C library fails in turn. usage: fuzz COUNT */
 #include "blobs.h"
 #include "tests/random_wkb.h"
-#include "tests/refusing.h"
+#include "tests/failing.h"
 
 #include <sqlite3ext.h>
 
@@ -12,18 +12,18 @@ int sqlite3_modishapegpkg_init(sqlite3 *database, char **error, const sqlite3_ap
 /* ---- SQLite, and its memory ---- */
 
 static sqlite3_mem_methods own;
-static size_t until; /* the next that is refused; 0 where none is */
+static size_t until; /* the next that fails; 0 where none does */
 
-static bool is_refused(void) {
+static bool fails_now(void) {
     return until > 0 && --until == 0;
 }
 
 static void *take_block(int size) {
-    return is_refused() ? NULL : own.xMalloc(size);
+    return fails_now() ? NULL : own.xMalloc(size);
 }
 
 static void *grow_block(void *block, int size) {
-    return is_refused() ? NULL : own.xRealloc(block, size);
+    return fails_now() ? NULL : own.xRealloc(block, size);
 }
 
 static void set_memory(void) {
@@ -184,7 +184,7 @@ static bool check_bytes(void) {
     for (int call = AREA_TWO; call < CALLS; call++) ask(call, given);
     bool is_taken = ask(SIMPLIFY, given) == SQLITE_ROW;
     /* An area may have more than 64 bits. */
-    for (int call = DESPIKE; call < AREA_TWO; call++) must((ask(call, given) == SQLITE_ROW) == is_taken, "one call takes what another one refuses");
+    for (int call = DESPIKE; call < AREA_TWO; call++) must((ask(call, given) == SQLITE_ROW) == is_taken, "one call takes what another one rejects");
     if (is_taken) check_validity(given);
     for (int call = SIMPLIFY; is_taken && call <= CANONICAL; call++) {
         Block left = answer(call, given);
@@ -198,7 +198,7 @@ static bool check_bytes(void) {
     return is_taken;
 }
 
-/* ---- refused memory ---- */
+/* ---- failed allocations ---- */
 
 /* Of many polygons, so that the call looks for an interrupt. */
 static void make_many(void) {
@@ -215,36 +215,36 @@ static void make_many(void) {
     }
 }
 
-/* The growth of a number is refused, of the C library or of SQLite, which may do without. It is whether that is told. */
-static bool tells_refusal(int call, Block blob, size_t number, bool of_library) {
+/* The growth of a number fails, of the C library or of SQLite, which may do without. It returns whether that is reported. */
+static bool reports_failure(int call, Block blob, size_t number, bool of_library) {
     growths = 0;
-    *(of_library ? &refused : &until) = number;
+    *(of_library ? &failing : &until) = number;
     int code = ask(call, blob);
     sqlite3_reset(calls[call]);
-    refused = 0;
-    must(code == SQLITE_NOMEM || (code == SQLITE_ROW && !of_library), "a growth that is refused isn't told");
+    failing = 0;
+    must(code == SQLITE_NOMEM || (code == SQLITE_ROW && !of_library), "a growth that fails is not reported");
     return code == SQLITE_NOMEM;
 }
 
-/* Each growth. It answers how many were told. */
-static size_t refuse_growths(int call, Block blob, bool of_library) {
+/* Each growth. It returns how many were reported. */
+static size_t fail_growths(int call, Block blob, bool of_library) {
     size_t told = 0;
     ask(call, blob);
     growths = 0;
     ask(call, blob);
     size_t all = of_library ? growths : SIZE_MAX;
-    for (size_t number = 1; number <= all && until == 0; number++) told += tells_refusal(call, blob, number, of_library);
+    for (size_t number = 1; number <= all && until == 0; number++) told += reports_failure(call, blob, number, of_library);
     until = 0;
     must(ask(call, blob) == SQLITE_ROW, "the connection doesn't go on");
     return told;
 }
 
-static void check_refusals(void) {
+static void check_failed_growths(void) {
     size_t told[2] = {0, 0};
     make_many();
     Block blob = copy_of(bytes, length);
     for (int call = SIMPLIFY; call < WINDING; call++)
-        for (int of_library = 0; of_library < 2; of_library++) told[of_library] += refuse_growths(call, blob, of_library);
+        for (int of_library = 0; of_library < 2; of_library++) told[of_library] += fail_growths(call, blob, of_library);
     must(told[0] >= 20 && told[1] >= 100, "it takes no memory");
     free(blob.at);
 }
@@ -260,7 +260,7 @@ int main(int count, char **arguments) {
         mutate_blob();
         taken += check_bytes();
     }
-    check_refusals();
+    check_failed_growths();
     free(point.at);
     close_database();
     printf("%ld of %ld taken\n", taken, rounds);

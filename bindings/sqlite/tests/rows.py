@@ -1,5 +1,5 @@
 #!/usr/bin/env python3
-"""Random geometries for COPY, as lines of their WKB, a step, a point, and what SQLite answers of them: every other one from a GeoPackage, and the rest as
+"""Random geometries for COPY, as lines of their WKB, a step, a point, and what SQLite returns of them: every other one from a GeoPackage, and the rest as
 EWKB in either byte order. MOD_I_SHAPE names the extension.
 
 usage: rows.py COUNT

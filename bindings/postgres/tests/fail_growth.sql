@@ -1,39 +1,39 @@
--- Each growth of each call, refused in turn, in the module whose allocator is tests/refuse.c, and whose answers have at most 1000 bytes.
+-- Each growth of each call, failing in turn, in the module whose allocator is tests/fail_growth.c, and whose results have at most 1000 bytes.
 \set VERBOSITY terse
 \pset format unaligned
 \pset tuples_only on
 \set ON_ERROR_STOP 0
-CREATE FUNCTION refuse_growth(number int8) RETURNS void AS :'module' LANGUAGE c;
+CREATE FUNCTION fail_growth(number int8) RETURNS void AS :'module' LANGUAGE c;
 CREATE FUNCTION growth_count() RETURNS int8 AS :'module' LANGUAGE c;
 CREATE FUNCTION block_count() RETURNS int8 AS :'module' LANGUAGE c;
--- How many growths a call makes, how many are answered by 53200, and how many blocks are left then.
-CREATE FUNCTION refused(call text, OUT growths int8, OUT told int8, OUT blocks int8) LANGUAGE plpgsql AS $$
+-- How many growths a call makes, how many end in the error 53200, and how many blocks are left then.
+CREATE FUNCTION failed(call text, OUT growths int8, OUT reported int8, OUT blocks int8) LANGUAGE plpgsql AS $$
 BEGIN
-    PERFORM refuse_growth(0);
+    PERFORM fail_growth(0);
     EXECUTE 'SELECT ' || call;
     growths := growth_count();
-    told := 0;
+    reported := 0;
     FOR k IN 1 .. growths LOOP
-        PERFORM refuse_growth(k);
+        PERFORM fail_growth(k);
         BEGIN
             EXECUTE 'SELECT ' || call;
         EXCEPTION WHEN out_of_memory THEN
-            told := told + 1;
+            reported := reported + 1;
         END;
     END LOOP;
-    PERFORM refuse_growth(0);
+    PERFORM fail_growth(0);
     EXECUTE 'SELECT ' || call;
     blocks := block_count();
 END $$;
-\echo each call takes memory, each refusal is told, no block is left
+\echo each call takes memory, each failure is reported, no block is left
 WITH of(geom) AS (VALUES ('MULTIPOLYGON(((0 0,4 0,9 0,9 9,0 9,0 0),(1 1,1 2,1 3,2 3,1 1)),((20 20,25 20,30 20,30 30,20 20)))')), calls(name, call) AS (
     SELECT name, format('%s(%L, 1)', name, geom) FROM of, unnest('{i_shape_simplify,i_shape_despike,i_shape_canonical,i_shape_key,i_shape_digest}'::text[]) AS name)
-SELECT name, growths >= CASE WHEN name = 'i_shape_despike' THEN 0 ELSE 3 END, told = growths, blocks FROM calls, LATERAL refused(call);
-SELECT growths > 0, told = growths, blocks FROM refused($$ i_shape_despike('MULTIPOLYGON(((0 0,4 0,4 4,4 9,4 4,0 0)),((9 9,12 9,12 12,12 15,12 12,9 9)))', 1) $$);
-SELECT growths >= 2, told = growths, blocks FROM refused($$ i_shape_is_valid('MULTIPOLYGON(((0 0,4 0,4 4,0 0)),((9 9,12 9,12 12,9 9)))', 1) $$);
+SELECT name, growths >= CASE WHEN name = 'i_shape_despike' THEN 0 ELSE 3 END, reported = growths, blocks FROM calls, LATERAL failed(call);
+SELECT growths > 0, reported = growths, blocks FROM failed($$ i_shape_despike('MULTIPOLYGON(((0 0,4 0,4 4,4 9,4 4,0 0)),((9 9,12 9,12 12,12 15,12 12,9 9)))', 1) $$);
+SELECT growths >= 2, reported = growths, blocks FROM failed($$ i_shape_is_valid('MULTIPOLYGON(((0 0,4 0,4 4,0 0)),((9 9,12 9,12 12,9 9)))', 1) $$);
 \echo other measures and tests take none
 SELECT growths FROM unnest(ARRAY['i_shape_is_clean(%L, 1)', 'i_shape_has_no_spikes(%L, 1)', 'i_shape_area_two(%L, 1)', 'i_shape_winding(%L, ''POINT(1 1)'', 1)']) AS call,
-    LATERAL refused(format(call, 'POLYGON((0 0,4 0,9 0,9 9,0 9,0 0))'));
+    LATERAL failed(format(call, 'POLYGON((0 0,4 0,9 0,9 9,0 9,0 0))'));
 \echo an answer that is too long
 \set VERBOSITY sqlstate
 SELECT length(i_shape_wkb_simplify(ST_AsBinary(ST_Buffer('POINT(0 0)'::geometry, 9, 13)), 0.01)) < 1000, length(i_shape_key(ST_Buffer('POINT(0 0)'::geometry, 9, 13), 0.01)) < 1000;

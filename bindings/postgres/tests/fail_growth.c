@@ -1,15 +1,15 @@
-/* For the module of a test: which growth of the C library is refused, and how many blocks it holds. */
+/* For the module of a test: which growth of the C library fails, and how many blocks it holds. */
 #include "postgres.h"
 
 #include "fmgr.h"
 
-#include "tests/refusing.h"
+#include "tests/failing.h"
 
 /* The growth of this number from now on; none at 0. */
-PG_FUNCTION_INFO_V1(refuse_growth);
-PGDLLEXPORT Datum refuse_growth(PG_FUNCTION_ARGS);
-Datum refuse_growth(PG_FUNCTION_ARGS) {
-    refused = PG_GETARG_INT64(0);
+PG_FUNCTION_INFO_V1(fail_growth);
+PGDLLEXPORT Datum fail_growth(PG_FUNCTION_ARGS);
+Datum fail_growth(PG_FUNCTION_ARGS) {
+    failing = PG_GETARG_INT64(0);
     growths = 0;
     PG_RETURN_VOID();
 }

@@ -1,4 +1,4 @@
-"""What each call refuses, and hostile values."""
+"""The errors of each call, and hostile values."""
 import locale
 import os
 import shutil
@@ -11,10 +11,10 @@ from unittest import mock
 
 from shapes import CLEAN, FORMS, SEVERAL, SQUARE, connect, geopackage, spatialite, wkb
 
-A_BLOB = "a blob of WKB, GeoPackage or SpatiaLite is needed"
-A_STEP = "and a finite number above 0 is needed"
-POLYGONS = "a Polygon or a MultiPolygon is needed, not a"
-Z_OR_M = "the geometry has Z or M, and two coordinates a point are needed"
+A_BLOB = "not a blob of WKB, GeoPackage or SpatiaLite"
+A_STEP = "not a finite number above 0"
+POLYGONS = "expected a Polygon or a MultiPolygon, not a"
+Z_OR_M = "expected two coordinates a point, and the geometry has Z or M"
 FAR = "polygon 1, ring 1, point 2: x is"
 TRIANGLE = wkb("POLYGON((0 0,4 0,4 4,0 0))")
 COLLECTION = struct.pack("<BII", 1, 7, 1)
@@ -25,7 +25,7 @@ def typed(kind, order="<"):
 
 
 VALUES = [
-    ("POLYGON((0 0,4 0,4 4,0 0))", f"geom is a text, and {A_BLOB}"), (7, f"geom is an integer, and {A_BLOB}"), (0.5, f"geom is a float, and {A_BLOB}"),
+    ("POLYGON((0 0,4 0,4 4,0 0))", f"geom is a text, {A_BLOB}"), (7, f"geom is an integer, {A_BLOB}"), (0.5, f"geom is a float, {A_BLOB}"),
     (b"", "not a geometry: it ends too soon"), (b"\5", "not a geometry: its byte order is neither 0 nor 1"),
     (TRIANGLE[:4], "not a geometry: it ends too soon"), (TRIANGLE[:-1], "not a geometry: it ends too soon"),
     (TRIANGLE + b"\0", "not a geometry: bytes are left over"), (typed(3)[:5] + b"\xff" * 4, "not a geometry: it ends too soon"),
@@ -57,13 +57,13 @@ COORDINATES = [("562949953421312 0", 1, f"{FAR} 562949953421312, 2^49 steps or m
 NAMES = ("simplify", "despike", "canonical", "key", "digest", "is_clean", "has_no_spikes", "is_valid", "validity_reason", "area_two")
 
 
-class RefusedTest(unittest.TestCase):
+class ErrorsTest(unittest.TestCase):
 
     @classmethod
     def setUpClass(cls):
         cls.database = connect()
 
-    def refusal(self, call, *values):
+    def error_of(self, call, *values):
         with self.assertRaises(sqlite3.OperationalError) as raised:
             self.database.execute(f"SELECT i_shape_{call}", values).fetchone()
         return str(raised.exception)
@@ -72,21 +72,21 @@ class RefusedTest(unittest.TestCase):
         for value, wanted in VALUES:
             for name in NAMES:
                 with self.subTest(name=name, wanted=wanted):
-                    self.assertEqual(self.refusal(f"{name}(?, 1)", value), f"i_shape: {wanted}")
+                    self.assertEqual(self.error_of(f"{name}(?, 1)", value), f"i_shape: {wanted}")
 
     def test_steps(self):
         for step, wanted in STEPS:
             for name in NAMES:
                 with self.subTest(name=name, step=step):
-                    self.assertEqual(self.refusal(f"{name}(?, ?)", TRIANGLE, step), f"i_shape: {wanted}")
+                    self.assertEqual(self.error_of(f"{name}(?, ?)", TRIANGLE, step), f"i_shape: {wanted}")
 
     def test_coordinates(self):
         for point, step, wanted in COORDINATES:
             for form, blob in FORMS.items():
                 with self.subTest(point=point, form=form):
-                    self.assertEqual(self.refusal("key(?, ?)", blob(f"POLYGON((0 0,{point},4 4,0 0))"), step), f"i_shape: {wanted}")
+                    self.assertEqual(self.error_of("key(?, ?)", blob(f"POLYGON((0 0,{point},4 4,0 0))"), step), f"i_shape: {wanted}")
         far = "MULTIPOLYGON(EMPTY,((0 0,4 0,4 4,0 0)),((0 0,4 0,4 4,0 0),(1 1,2 1,2 1e300,1 1)))"
-        self.assertEqual(self.refusal("simplify(?, 1)", wkb(far)), "i_shape: polygon 3, ring 2, point 3: y is 1e+300, 2^49 steps or more from 0")
+        self.assertEqual(self.error_of("simplify(?, 1)", wkb(far)), "i_shape: polygon 3, ring 2, point 3: y is 1e+300, 2^49 steps or more from 0")
         self.assertEqual(self.database.execute("SELECT length(i_shape_key(?, 1))", (wkb("POLYGON((0 0,562949953421311 0,4 4,0 0))"),)).fetchone(), (64,))
 
     @unittest.skipUnless(shutil.which("localedef") and os.path.exists("/usr/share/i18n/locales/ps_AF"), "there is no localedef, or no locale for it")
@@ -98,35 +98,35 @@ class RefusedTest(unittest.TestCase):
                 subprocess.run(["localedef", "-i", name, "-f", "UTF-8", os.path.join(folder, f"{name}.UTF-8")], check=True)
                 locale.setlocale(locale.LC_NUMERIC, f"{name}.UTF-8")
                 self.assertNotEqual(locale.localeconv()["decimal_point"], ".")
-                self.assertIn("y is -1234567.1234567892, 2^49", self.refusal("key(?, 1e-300)", wkb("POLYGON((0 0,0 -1234567.1234567891,4 4,0 0))")))
+                self.assertIn("y is -1234567.1234567892, 2^49", self.error_of("key(?, 1e-300)", wkb("POLYGON((0 0,0 -1234567.1234567891,4 4,0 0))")))
 
     def test_oriented(self):
         for value, wanted in (2, "2"), (-1, "-1"), (1.0, "a float"), ("1", "a text"), (b"", "a blob"):
             for name in ("canonical", "key", "digest"):
-                self.assertEqual(self.refusal(f"{name}(?, 1, ?)", TRIANGLE, value), f"i_shape: oriented is {wanted}, and 0 or 1 is needed")
+                self.assertEqual(self.error_of(f"{name}(?, 1, ?)", TRIANGLE, value), f"i_shape: oriented is {wanted}, not 0 or 1")
 
     def test_winding(self):
         for point, wanted in [
-            ("POINT(1 1)", f"point is a text, and {A_BLOB}"), (wkb(CLEAN), "a Point is needed, not a Polygon"),
+            ("POINT(1 1)", f"point is a text, {A_BLOB}"), (wkb(CLEAN), "expected a Point, not a Polygon"),
             (wkb("POINT(1 1)")[:5], "not a geometry: it ends too soon"), (wkb("POINT(1 1)") + b"\0", "not a geometry: bytes are left over"),
             (wkb("POINT(1 1)", srid=7), "the SRID of the polygon is 0, and that of the point 7"),
             (geopackage("POINT(1 1)", 7), "the SRID of the polygon is 0, and that of the point 7"),
             (spatialite("POINT(1 1)", 7), "the SRID of the polygon is 0, and that of the point 7"),
             (wkb("POINT(NaN 1)"), "the point (NaN, 1) is 2^49 steps or more from 0, or isn't finite"),
         ]:
-            self.assertEqual(self.refusal("winding(?, ?, 1)", TRIANGLE, point), f"i_shape: {wanted}")
-        self.assertEqual(self.refusal("winding(?, ?, 0)", TRIANGLE, wkb("POINT(1 1)")), f"i_shape: step is 0, {A_STEP}")
+            self.assertEqual(self.error_of("winding(?, ?, 1)", TRIANGLE, point), f"i_shape: {wanted}")
+        self.assertEqual(self.error_of("winding(?, ?, 0)", TRIANGLE, wkb("POINT(1 1)")), f"i_shape: step is 0, {A_STEP}")
         for blob in geopackage, spatialite:
-            self.assertEqual(self.refusal("winding(?, ?, 1)", blob(CLEAN, 5), blob("POINT(1 1)", 7)),
+            self.assertEqual(self.error_of("winding(?, ?, 1)", blob(CLEAN, 5), blob("POINT(1 1)", 7)),
                              "i_shape: the SRID of the polygon is 5, and that of the point 7")
 
     def test_area(self):
         for rings in "(0 0,5e9 0,5e9 5e9,0 0)", "(0 0,-5e9 0,5e9 5e9,0 0)", "(0 0,1 0,2 0,0 0),(0 0,5e9 0,5e9 5e9,0 0)":
-            self.assertEqual(self.refusal("area_two(?, 1)", wkb(f"POLYGON({rings})")), "i_shape: twice the area needs more than 64 bits, which an integer has")
+            self.assertEqual(self.error_of("area_two(?, 1)", wkb(f"POLYGON({rings})")), "i_shape: twice the area needs more than 64 bits, which an integer has")
 
     def test_counts(self):
         for call in "simplify(?)", "simplify(?, 1, 1)", "key(?, 1, 1, 1)", "winding(?, 1)", "version(?)":
-            self.assertIn("wrong number of arguments", self.refusal(call, TRIANGLE))
+            self.assertIn("wrong number of arguments", self.error_of(call, TRIANGLE))
 
     @unittest.skipUnless(hasattr(sqlite3.Connection, "setlimit"), "setlimit is new in Python 3.11")
     def test_too_long(self):
