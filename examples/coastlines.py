@@ -71,7 +71,7 @@ def rings(path: str) -> list[np.ndarray]:
 
 
 def best(call, times: int = 7):
-    """What the call answers, and the least time that it took."""
+    """What the call returns, and the least time that it took."""
     spent = []
     for _ in range(times):
         start = time.perf_counter()

@@ -4,7 +4,7 @@
 The rings are divided by their offsets, each worker cleans a part by one batch
 call, and the parts that come back are joined: the arrays of one call on all
 the rings, byte by byte. It needs distributed (Debian's python3-distributed),
-and the data that coastlines.py tells of.
+and the data that coastlines.py names.
 
     coastlines_dask.py [--workers N] [FILE]
 """
@@ -23,7 +23,7 @@ import i_shape
 
 def clean(client: Client, points: np.ndarray, offsets: np.ndarray,
           parts: int) -> i_shape.Rings:
-    """What simplify_rings answers, by so many parts of about equal size."""
+    """What simplify_rings returns, by so many parts of about equal size."""
     workers = list(client.scheduler_info()["workers"])
     goals = np.linspace(offsets[0], offsets[-1], parts + 1)[1:-1]
     cuts = [0, *np.searchsorted(offsets, goals), len(offsets) - 1]

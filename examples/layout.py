@@ -109,5 +109,9 @@ def clean(given: str, out: str, is_timed: bool) -> None:
 
 
 if __name__ == "__main__":
-    # KLayout sets the names that -rd tells.
-    clean(globals()["given"], globals()["out"], "times" in globals())
+    # KLayout sets the names that -rd gives.
+    words = globals()
+    if "given" not in words or "out" not in words:
+        # KLayout keeps the message of a SystemExit to itself.
+        raise ValueError("name the files: -rd given=IN -rd out=OUT")
+    clean(words["given"], words["out"], "times" in words)

@@ -3,7 +3,7 @@
 
 The parcels of the second file are those of the first, in another order, each
 from another start and with a vertex more on an edge, as another program may
-write them. Told is how many are found again by the bytes of their
+write them. It prints how many are found again by the bytes of their
 coordinates, by shapely's normalize (Debian's python3-shapely), and by
 canonical_keys. Nothing is dissolved, and no tolerance is asked.
 

@@ -2,7 +2,7 @@
 """Keeps polygons of many files in a table, each once, by canonical keys.
 
 The table is of sqlite3, which Python has. It remembers from which files each
-polygon came, under which numbers, and how it stood in the first of them, so
+polygon came, under which numbers, and how it was in the first of them, so
 a file that is added later finds those that are there already, whatever start
 its rings have and whichever vertices lie on their edges.
 
@@ -61,7 +61,7 @@ def add(store: sqlite3.Connection, file: str, features: io.Features,
         step: float) -> tuple[int, int]:
     """Add the polygons of a file, or none where an error is raised.
 
-    It answers how many of them are new, and how many there are, without
+    It returns how many of them are new, and how many there are, without
     those of which nothing is left.
     """
     if store.execute("SELECT 1 FROM places WHERE file = ?",

@@ -6,7 +6,7 @@ no task of i_shape; then it is snapped onto a grid and cleaned. Two tiles
 agree on the edge that they share where both have land beside it, or neither.
 Told is on how much of the edges they don't, before and after they are
 cleaned, and how many vertices they have there. The data are those that
-coastlines.py tells of.
+coastlines.py names.
 
     tiles.py [--grid N] [--plot FILE] [FILE]
 """

@@ -5,7 +5,7 @@ The triangles are mapbox_earcut's (Debian's python3-mapbox-earcut), ring by
 ring, on a grid that is so coarse that many points get onto a line. Told are
 the triangles without an area, the rings whose triangles miss their area, how
 many of these are valid polygons by shapely (Debian's python3-shapely), and
-the time, the best of three. The data are those that coastlines.py tells of.
+the time, the best of three. The data are those that coastlines.py names.
 
     triangles.py [--grid N] [--plot FILE] [FILE]
 """

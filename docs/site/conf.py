@@ -40,6 +40,7 @@ def setup(app):
     contents = {"Pages": pages, "Reference": ["python", "c", "cpp", "javascript", "rust"]}
 
     def add_contents(_, name, source):
+        source[0] = re.sub("<!-- plot (.*): (.*) -->", r"![\2](plots/\1.svg)", source[0])
         if name == root_doc:
             source[0] += "".join("\n".join(["", "```{toctree}", ":hidden:", f":caption: {caption}", *names, "```", ""]) for caption, names in contents.items())
         elif name not in sum(contents.values(), []):

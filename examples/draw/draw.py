@@ -3,7 +3,7 @@
 
 Contours are read from standard input, one a line, as `x y x y ..`. Each is a
 row of the picture: at first as given, and then what each COMMAND of
-i_shape_tool answers for it. So every cleaned contour is the program's own
+i_shape_tool prints for it. So every cleaned contour is the program's own
 answer, and nothing is cleaned here.
 
     draw.py [--label TEXT].. [--aspect NUMBER] [--program PATH] COMMAND..
@@ -41,7 +41,7 @@ Contour = list[Point]
 
 
 class Frame(NamedTuple):
-    """Where the points of a row stand within its panels."""
+    """Where the points of a row are within its panels."""
 
     left: int
     top: int
@@ -66,7 +66,7 @@ class Frame(NamedTuple):
 
 
 def answer(program: Path, command: str, contour: Contour) -> Contour | None:
-    """What the program answers for a contour: none where it collapses."""
+    """What the program returns for a contour: none where it collapses."""
     line = " ".join(f"{x} {y}" for x, y in contour) + "\n"
     told = subprocess.run([program.absolute(), command], input=line,
                           text=True, stdout=subprocess.PIPE,
@@ -110,7 +110,7 @@ def outline(contour: Contour, kind: str, frame: Frame) -> str:
 
 
 def count(contour: Contour | None) -> str:
-    """How many points a contour has, and at how many places they stand."""
+    """How many points a contour has, and at how many places they are."""
     if contour is None:
         return "none: it collapses"
     places = len(set(contour))

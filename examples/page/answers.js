@@ -1,4 +1,4 @@
-/** What the library answers of polygons that are read or drawn, on the page and in its worker. */
+/** What the library returns of polygons that are read or drawn, on the page and in its worker. */
 import { readPolygons, scaled } from "./formats.js";
 import { checkRange, flat, polygonsOf, ringsOf } from "./polygons.js";
 import { reasonsOf } from "./reasons.js";
@@ -47,7 +47,7 @@ export function answersOf(shapes, polygons) {
     };
 }
 
-/** Answers the polygons of a text, in safe whole numbers of 32 bits, and by a scale of 1 one that would keep more of their fractions. */
+/** Returns the polygons of a text, in safe whole numbers of 32 bits, and by a scale of 1 one that would keep more of their fractions. */
 export function polygonsIn(shapes, text, scale) {
     if (!(scale > 0)) throw new RangeError("the scale is no number above 0");
     const read = readPolygons(text);

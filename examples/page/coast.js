@@ -5,19 +5,19 @@ import { drawFrame, element, frameOf, pathOf } from "./board.js";
 const GRIDS = [1, 50, 100, 200, 400, 800, 1500, 3000];
 const LEAST_TIME = 5;
 
-/** Answers the points of a text `x y x y ..`, as the library takes them. */
+/** Returns the points of a text `x y x y ..`, as the library takes them. */
 function readCoast(text) {
     return Int32Array.from(text.trim().split(/\s+/), Number);
 }
 
-/** Answers the text of an island's shoreline. */
+/** Returns the text of an island's shoreline. */
 async function fetchCoast(name) {
     const answer = await fetch(`coastlines/${name}.txt`);
     if (!answer.ok) throw new Error(`${answer.url}: ${answer.status} ${answer.statusText}`);
     return answer.text();
 }
 
-/** Answers the mean milliseconds of a call, of so many calls that the clock can tell them. */
+/** Returns the mean milliseconds of a call, of so many calls that the clock can measure them. */
 function timeOf(call) {
     const start = performance.now();
     let calls = 0;

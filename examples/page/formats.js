@@ -3,7 +3,7 @@
  * first point again at its end.
  */
 
-/** Answers the polygons of a text, whichever form it has. Throws a SyntaxError that says what is wrong. */
+/** Returns the polygons of a text, whichever form it has. Throws a SyntaxError that says what is wrong. */
 export function readPolygons(text) {
     const given = text.trim();
     if (given === "") return [];
@@ -88,7 +88,7 @@ function wktPoint(words) {
     return words.trim() === "" ? "" : JSON.stringify(numbers);
 }
 
-/** Answers polygons in whole numbers: each coordinate times the scale, rounded. */
+/** Returns polygons in whole numbers: each coordinate times the scale, rounded. */
 export function scaled(polygons, scale) {
     return polygons.map((rings) => rings.map((ring) => ring.map((point) => point.map((each) => Math.round(each * scale) + 0))));
 }

@@ -86,7 +86,7 @@ function draw({ left, removed, start, contact }) {
     showCursor();
 }
 
-/** Shows the polygons, and what the library answers of them, or has answered in a worker. */
+/** Shows the polygons, and what the library returns of them, or has returned in a worker. */
 function show(known) {
     answers = known ?? answersOf(shapes, polygons);
     draw(answers);
@@ -150,7 +150,7 @@ function clear() {
     show();
 }
 
-/** Does what is asked for, and tells where it fails. */
+/** Does what is asked for, and shows where it fails. */
 function attempt(action) {
     try {
         action();

@@ -1,6 +1,6 @@
-/** Polygons as the page holds them, arrays of rings of points [x, y], and as the library takes and answers them. */
+/** Polygons as the page holds them, arrays of rings of points [x, y], and as the library takes and returns them. */
 
-/** Answers polygons end to end. */
+/** Returns polygons end to end. */
 export function flat(polygons) {
     const rings = polygons.flat();
     return {
@@ -16,12 +16,12 @@ function offsetsOf(lists) {
     return offsets;
 }
 
-/** Answers the rings of an answer. */
+/** Returns the rings of an answer. */
 export function ringsOf(points, offsets) {
     return Array.from({ length: offsets.length - 1 }, (_, k) => pointsOf(points.subarray(2 * offsets[k], 2 * offsets[k + 1])));
 }
 
-/** Answers the polygons of an answer. */
+/** Returns the polygons of an answer. */
 export function polygonsOf({ points, ringOffsets, polygonOffsets }) {
     const rings = ringsOf(points, ringOffsets);
     return Array.from({ length: polygonOffsets.length - 1 }, (_, k) => rings.slice(polygonOffsets[k], polygonOffsets[k + 1]));

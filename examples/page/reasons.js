@@ -1,6 +1,6 @@
 /** Why points of a contour are removed, for display: the library says which are left, and not why the others aren't. */
 
-/** Answers what point b is between its neighbours a and c: "repeated", "straight", "spike", or undefined where the way bends there. */
+/** Returns what point b is between its neighbours a and c: "repeated", "straight", "spike", or undefined where the way bends there. */
 export function reasonOf(a, b, c) {
     const [ux, uy, vx, vy] = [b[0] - a[0], b[1] - a[1], c[0] - b[0], c[1] - b[1]].map(BigInt);
     if ((ux === 0n && uy === 0n) || (vx === 0n && vy === 0n)) return "repeated";
@@ -19,7 +19,7 @@ function leftPlaces(given, left) {
 }
 
 /**
- * Answers for each place of a point that is removed its reason: that which it has when it goes, as the points go one by one. "collapsed" is that of the
+ * Returns for each place of a point that is removed its reason: that which it has when it goes, as the points go one by one. "collapsed" is that of the
  * last two of a contour that has no area.
  */
 export function reasonsOf(given, left) {

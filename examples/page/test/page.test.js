@@ -129,7 +129,7 @@ describe("the page", () => {
         rmSync(folder, { recursive: true });
     });
 
-    check("a module that isn't there is told", () => {
+    check("a module that isn't there is reported", () => {
         const takes = (request, response) => request.url.endsWith(".wasm") && response.writeHead(404).end();
         return visit(folder, takes, async (browser) => {
             await browser.until("document.getElementById('problem')?.textContent.includes('.wasm: 404 Not Found')");
@@ -363,7 +363,7 @@ describe("the page", () => {
                 await page.texts({ "coast-grid": "3000", "coast-left": "none: it collapses" });
             });
 
-            check("nothing stands out of the window, and nothing was thrown", async () => {
+            check("nothing is out of the window, and nothing was thrown", async () => {
                 await browser.clickOn("example");
                 await page.texts({ given: "18 points in 2 rings", left: "10 points in 2 rings", removed: "8: 5 straight, 1 spike, 2 repeated" });
                 await page.texts({ contact: "edges 3 and 5 meet, from (3, -3) and (4, 0)" });
