@@ -148,7 +148,7 @@ static bool has_zero_turn(const double *points, size_t count) {
     return false;
 }
 
-/* Adds what an answer of GEOS leaves, which may be a polygon, several, one with holes, and parts without area; the area is told without its sign. */
+/* Adds what an answer of GEOS leaves, which may be a polygon, several, one with holes, and parts without area; the area comes without its sign. */
 static void count_answer(const GEOSGeometry *answer, int64_t area, double *buffer, tally *sum) {
     double after = 0;
     size_t before = sum->points;
@@ -174,7 +174,7 @@ static geometry preserve(const GEOSGeometry *given) { return GEOSTopologyPreserv
 
 static geometry repeated(const GEOSGeometry *given) { return GEOSRemoveRepeatedPoints(given, 0); }
 
-/* A polygon is normalized as it stands, so it is a copy that is. */
+/* A polygon is normalized in place, so a copy is. */
 static geometry normalize(const GEOSGeometry *given) {
     geometry copy = GEOSGeom_clone(given);
     if (copy && GEOSNormalize(copy) < 0) exit(1);
@@ -191,7 +191,7 @@ static void time_geos(const char *name, const rings *all, geos_call call, const 
         if (spent < least) least = spent;
         for (size_t k = 0; k < all->rings; k++) {
             size_t first = all->offsets[k];
-            if (!answers[k]) continue; /* GEOS tells a fault so */
+            if (!answers[k]) continue; /* a fault, by GEOS's custom */
             if (run == 0) count_answer(answers[k], area_two(all->points + first, all->offsets[k + 1] - first), buffer, &left);
             GEOSGeom_destroy(answers[k]);
         }

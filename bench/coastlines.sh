@@ -2,7 +2,7 @@
 # Times this library beside GEOS on the coastlines of the world: bench/coastlines.sh [GRID ..], by default at the grids 1, 16, 64 and 512.
 #
 # It needs the C library of `make c` (or of the folder I_SHAPE_C_DIR), a C compiler, and of Debian python3-numpy, gmt-gshhg-low, netcdf-bin and
-# libgeos-dev; the text command is timed where `make program` has built the program. Nothing is kept. docs/COMPARISON.md tells what was seen.
+# libgeos-dev; the text command is timed where `make program` has built the program. Nothing is kept. docs/COMPARISON.md has what was seen.
 set -eu
 top=$(cd "$(dirname "$0")/.." && pwd)
 library=${I_SHAPE_C_DIR:-$top/bindings/c/out}

@@ -134,7 +134,7 @@ static const struct {
     {"copy", "floor: a copy of the points", CLEAN},
     {"simplified", "SimpleContour::simplified", CLEAN | DIRTY},
     {"simplify_contour", "ContourSimplifier, reused", CLEAN | DIRTY},
-    {"simplify_into", "simplify_into, reused", CLEAN | DIRTY},
+    {"try_clean_into", "try_clean_into, reused", CLEAN | DIRTY},
     {"despiked_contour", "despiked_contour", CLEAN | DIRTY},
     {"canonical", "canonical", CLEAN | DIRTY},
     {"is_simple", "is_simple", CLEAN},

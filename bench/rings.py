@@ -3,7 +3,7 @@
 
     rings.py FOLDER GRID ..
 
-A file of the folder has the name of its grid. examples/coastlines.py tells
+A file of the folder has the name of its grid. examples/coastlines.py says
 where the data are from.
 """
 

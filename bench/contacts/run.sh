@@ -9,7 +9,7 @@
 #
 # A library that isn't at hand is left out. Debian has them in libgeos-dev, libboost-dev and libcgal-dev, and the shorelines in gmt-gshhg-full, which netcdf-bin
 # and python3-numpy read. Ours is that of `make c`, or of the folder I_SHAPE_C_DIR. What is built lies in ${BENCH_DIR:-${TMPDIR:-/tmp}/i_shape_contacts}, where
-# the shorelines stay too. docs/COMPARISON.md tells what was seen.
+# the shorelines stay too. docs/COMPARISON.md has what was seen.
 set -eu
 bench=$(cd "$(dirname "$0")" && pwd)
 top=$(cd "$bench/../.." && pwd)

@@ -5,7 +5,7 @@ nearest, without repeated points.
     shorelines.py EDGES ..
 
 The data are GSHHG's in full resolution, as Debian's gmt-gshhg-full has them;
-examples/coastlines.py tells how they are read.
+examples/coastlines.py says how they are read.
 """
 
 import sys

@@ -36,3 +36,7 @@ for (const count of [10, 100]) {
     const offsets = Uint32Array.from({ length: MOST / count + 1 }, (_, k) => k * count);
     measure(`${count} points, many rings by one call`, MOST, () => shapes.simplifyRings(points, offsets));
 }
+const squares = new Int32Array(2 * MOST);
+for (let k = 0; k < MOST; k += 4) squares.set([0, 0, 4, 0, 4, 4, 0, 4].map((item) => item + k), 2 * k);
+const ends = Uint32Array.from({ length: MOST / 4 + 1 }, (_, k) => k);
+measure("4 points, keys of polygons by one call", MOST, () => shapes.canonicalKeys(squares, ends.map((end) => 4 * end), ends));

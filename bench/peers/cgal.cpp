@@ -1,5 +1,5 @@
 // CGAL's simplification of polygons, at the least threshold above 0: at 0 it does nothing. It asks for simple polygons, and others can end the program, so
-// that these are told as faults.
+// that these are printed as faults.
 #include "peer.hpp"
 
 #include <limits>

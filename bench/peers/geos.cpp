@@ -10,7 +10,7 @@ using Geometry = std::shared_ptr<GEOSGeometry>;
 static void quiet(const char *, ...) {}
 
 static Geometry owned(GEOSGeometry *geometry) {
-    if (!geometry) throw std::runtime_error("GEOS tells a fault");
+    if (!geometry) throw std::runtime_error("GEOS reports a fault");
     return Geometry(geometry, GEOSGeom_destroy);
 }
 
@@ -44,7 +44,7 @@ static std::vector<Ring> read_answer(const Geometry &answer) {
 }
 
 static Geometry normalized(Geometry geometry) {
-    if (GEOSNormalize(geometry.get()) < 0) throw std::runtime_error("GEOS tells a fault");
+    if (GEOSNormalize(geometry.get()) < 0) throw std::runtime_error("GEOS reports a fault");
     return geometry;
 }
 

@@ -1,4 +1,4 @@
-//! The calls of the Rust crate i_shape 5.0.0, over whole numbers of 32 bits, in the way that peer.hpp tells. As the file src/main.rs of a package that
+//! The calls of the Rust crate i_shape 5.0.0, over whole numbers of 32 bits, as peer.hpp says. As the file src/main.rs of a package that
 //! depends on i_shape and i_float it is built by cargo.
 
 use i_float::int::point::IntPoint;

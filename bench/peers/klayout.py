@@ -3,7 +3,7 @@
     klayout -b -r bench/peers/klayout.py
 
 Debian's klayout runs this with its own Python. For each family of rings it
-tells how many `Polygon.compress(true)` leaves otherwise than the loops do, up
+prints how many `Polygon.compress(true)` leaves otherwise than the loops do, up
 to start and direction, and how many have a zero turn as a polygon that isn't
 compressed.
 """

@@ -1,5 +1,5 @@
 // What the programs of this folder share. Each reads rings, a line `x y x y ..` each, cleans every ring by the call that its first word names, and shows
-// what is left in a line: rings parted by ` ; `, `none`, or `fault` where the library tells one. With a second word it shows nothing, and tells how many
+// what is left in a line: rings parted by ` ; `, `none`, or `fault` where the library reports one. With a second word it shows nothing, and prints how many
 // milliseconds of the processor the calls took, the least of five runs. Without words it names its calls.
 #pragma once
 
@@ -16,7 +16,7 @@
 
 using Ring = std::vector<std::pair<double, double>>;
 
-// How a ring is given to a library, its calls by name, and how an answer is read. A call tells a fault by throwing.
+// How a ring is given to a library, its calls by name, and how an answer is read. A call reports a fault by throwing.
 template <class Given, class Answer> struct Library {
     std::function<Given(const Ring &)> give;
     std::map<std::string, std::function<Answer(const Given &)>> calls;

@@ -12,7 +12,7 @@ columns are milliseconds of processor time, the least of some runs:
   is made in the call; GEOS: of a prepared geometry, whose index is there too;
 - matplotlib: Path.contains_points of one ring.
 
-A dash stands where a call looks at each pair of an edge and a point, and these
+A dash is where a call looks at each pair of an edge and a point, and these
 are more than 10^8, and for matplotlib where there is more than one ring. Which
 points are inside is the same by ours and shapely, but on edges, or the script
 ends with an error.
@@ -94,7 +94,7 @@ ROWS = [(circle, 10, 10), (circle, 10, 1_000_000), (circle, 100, 100),
 
 
 def least(call):
-    """Milliseconds, and what the call answers."""
+    """Milliseconds, and what the call returns."""
     spent = []
     while len(spent) < 3 or (sum(spent) < 0.3 and len(spent) < 300):
         begun = time.process_time()

@@ -11,7 +11,7 @@ ask() {
     psql -XAtq -v ON_ERROR_STOP=1 -c "SET work_mem = '1GB'" -c 'SET max_parallel_workers_per_gather = 0' "$@"
 }
 
-# A row of the table: the name $1, the least seconds of $2 runs of the query $3, and what it answers.
+# A row of the table: the name $1, the least seconds of $2 runs of the query $3, and what it returns.
 row() {
     local k
     for k in $(seq "$2"); do ask -c '\timing on' -c "$3"; done > "$work/printed"
