@@ -14,13 +14,13 @@ TO_MAN = $(DESTDIR)$(MANDIR)/man1
 C_OUT := bindings/c/out$(if $(TARGET)$(CPU),/$(TARGET)$(if $(TARGET),$(if $(CPU),-))$(CPU))
 PROGRAM := crates/i_shape_tool_main/out/$(if $(TARGET)$(CPU),$(TARGET)$(CPU)/i_shape_tool,i_shape_tool_main)
 
-.PHONY: test gate help check check-c fmt program c wasm page wheel postgres sqlite dist site pictures install install-program install-c install-postgres install-sqlite uninstall uninstall-program uninstall-c uninstall-sqlite clean
+.PHONY: test gate help check check-c fmt program c wasm page wheel postgres sqlite dist site pictures install install-program install-c install-postgres install-sqlite uninstall uninstall-program uninstall-c uninstall-postgres uninstall-sqlite clean
 
 # The tests of behaviour, without a proof, by cargo. What isn't built is skipped.
 test:
 	@python3 .ci/parts.py test
 
-# The whole gate: proves everything, runs all tests, and checks that wrong bodies are refused and refused memory is told. docs/develop/README.md says more.
+# The whole gate: proves everything, runs all tests, tries the mutants, and makes each allocation fail. docs/develop/README.md says more.
 gate:
 	@python3 .ci/parts.py gate
 
@@ -131,10 +131,15 @@ install-postgres: $(if $(I_SHAPE_C_DIR),,c)
 install-sqlite: $(if $(I_SHAPE_C_DIR),,c)
 	@$(MAKE) -s -f bindings/sqlite/Makefile I_SHAPE_C_DIR=$(abspath $(or $(I_SHAPE_C_DIR),$(C_OUT))) LIBDIR=$(LIBDIR) install
 
+# Removes the extension of PostgreSQL from that server, whose databases have dropped it.
+uninstall-postgres:
+	@mkdir -p bindings/postgres/out
+	@$(MAKE) -s -C bindings/postgres/out -f ../Makefile uninstall
+
 # Removes the extension of SQLite.
 uninstall-sqlite:
 	rm -f "$(TO_LIB)/mod_i_shape.so"
 
 # Removes what is built and the kept work of the proofs.
 clean:
-	rm -rf crates/*/out bindings/c/out bindings/js/out bindings/postgres/out bindings/python/out bindings/sqlite/out rust/target docs/out examples/page/out dist
+	rm -rf crates/*/out bindings/c/out bindings/js/out bindings/postgres/out bindings/python/out bindings/sqlite/out rust/target docs/out docs/plots examples/page/out dist

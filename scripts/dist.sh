@@ -1,12 +1,12 @@
 #!/usr/bin/env bash
-# Packs what a release holds into a folder: the C library for each Linux, in an archive and in a wheel, the program for each, the package for JavaScript, the plugin of QGIS, in source
+# Packs what a release holds into a folder: the C library for each Linux, in an archive and in a wheel, the program for each, the verdicts of the proofs, the package for JavaScript, the plugin of QGIS, in source
 # the crate for Rust, the C library and the package for Python, the site, and SHA256SUMS. What isn't built yet is built first; the C library and the program for each processor of their machine. Two runs over one commit give the same bytes:
 # names are sorted, and each time is that of the commit, or SOURCE_DATE_EPOCH.
 #
 # usage: dist.sh FOLDER [PART..]
 #
-# A part is linux-x86_64, linux-aarch64, wheel-x86_64, wheel-aarch64, program-x86_64, program-aarch64, javascript, qgis, rust, c, python, source or site. Where none
-# is named, all are packed. The last six need no kit.
+# A part is linux-x86_64, linux-aarch64, wheel-x86_64, wheel-aarch64, program-x86_64, program-aarch64, proof, javascript, qgis, rust, c, python, source or site. Where
+# none is named, all are packed. The last seven need no kit.
 set -euo pipefail
 umask 022
 export LC_ALL=C
@@ -14,7 +14,7 @@ unset MAKEFLAGS MFLAGS
 top=$(cd "$(dirname "$0")/.." && pwd)
 folder=${1:?the folder to pack into}
 shift
-[ $# -gt 0 ] || set -- linux-x86_64 linux-aarch64 wheel-x86_64 wheel-aarch64 program-x86_64 program-aarch64 javascript qgis rust c python source site
+[ $# -gt 0 ] || set -- linux-x86_64 linux-aarch64 wheel-x86_64 wheel-aarch64 program-x86_64 program-aarch64 proof javascript qgis rust c python source site
 version=$("$top/scripts/version.sh")
 SOURCE_DATE_EPOCH=${SOURCE_DATE_EPOCH:-$(git -C "$top" log -1 --format=%ct)}
 export SOURCE_DATE_EPOCH
@@ -22,13 +22,15 @@ work=$(mktemp -d)
 trap 'rm -rf "$work"' EXIT
 mkdir "$work/packed"
 
+. "$top/scripts/erased.sh"
+
 # Packs the folder $1 of $work into the file $2.
 pack() {
     tar --create --format=ustar --sort=name --owner=0 --group=0 --numeric-owner --mode=u=rwX,go=rX --mtime="@$SOURCE_DATE_EPOCH" -C "$work" "$1" |
         gzip -n9 > "$work/packed/$2"
 }
 
-# The library for the machine $1, with $library its folder and $choice what make is told to take it.
+# The library for the machine $1, with $library its folder and $choice the word by which make takes it.
 build_library() {
     case $1 in
     x86_64) library=$top/bindings/c/out/x86-64 choice=CPU=x86-64 && bash "$top/bindings/c/build.sh" --cpu x86-64 ;;
@@ -36,8 +38,7 @@ build_library() {
     esac
 }
 
-# What the kit said of the proof of the crate $2, whose log is $1.
-print_proof() { python3 "$top/scripts/proof.py" "$1" "$2"; }
+print_proof() { python3 "$top/scripts/proof.py" "$@"; }
 
 pack_linux() {
     local machine=$1 name=i_shape-$version-linux-$1
@@ -53,7 +54,7 @@ pack_linux() {
     cp -R "$top"/bindings/c/{sample.c,codes.c,sample.cpp,codes.cpp,consumer} "$top"/examples/{clean,polygons}.c "$work/$name/sample"
     cp "$top"/{LICENSE,NOTICE} "$work/$name"
     sed "s|@VERSION@|$version|; s|@MACHINE@|$machine|" "$top/bindings/c/archive.md" > "$work/$name/README.md"
-    print_proof "$library/build.log" i_shape_c > "$work/$name/PROOF"
+    print_proof "$library/build.log" i_shape_c "$work/$name" lib/libi_shape.a "lib/libi_shape.so.$version" > "$work/$name/PROOF"
     [ "$machine" != x86_64 ] || add_faster "$work/$name"
     pack "$name" "$name.tar.gz"
 }
@@ -70,7 +71,7 @@ add_faster() {
     build_default
     mkdir -p "$to"
     cp -P "$default"/libi_shape.so.* "$to"
-    print_proof "$default/build.log" i_shape_c > "$1/PROOF.x86-64-v2"
+    print_proof "$default/build.log" i_shape_c "$1" "lib/glibc-hwcaps/x86-64-v2/libi_shape.so.$version" > "$1/PROOF.x86-64-v2"
 }
 
 pack_program() {
@@ -79,7 +80,23 @@ pack_program() {
     make -s -C "$top" install-program "$choice" DESTDIR="$work/$name" PREFIX=
     cp "$top"/{LICENSE,NOTICE} "$work/$name"
     sed "s|@VERSION@|$version|; s|@MACHINE@|$machine|" "$top/scripts/program/archive.md" > "$work/$name/README.md"
-    print_proof "$top/crates/i_shape_tool_main/out/$kind/build.log" i_shape_tool_main > "$work/$name/PROOF"
+    print_proof "$top/crates/i_shape_tool_main/out/$kind/build.log" i_shape_tool_main "$work/$name" bin/i_shape_tool > "$work/$name/PROOF"
+    pack "$name" "$name.tar.gz"
+}
+
+# The verdict of each crate that a release rests on or claims, from nothing: in a copy of these, for which the kit has kept nothing.
+pack_proof() {
+    local name=i_shape-$version-proof crate
+    local proved=(i_shape_core i_shape_contacts i_shape_source i_shape_laws i_shape i_shape_tool i_shape_tool_main i_shape_c)
+    mkdir "$work/anew" "$work/$name"
+    tar --create --exclude=out -C "$top" HANDLES "${proved[@]/#/crates/}" | tar -x -C "$work/anew"
+    grep -E "^($(IFS='|' && echo "${proved[*]}"))[ :]" "$top/crates.txt" > "$work/anew/crates.txt"
+    echo 'dist.sh: proving each crate from nothing' >&2
+    (cd "$work/anew" && rt all verdict < /dev/null > "$work/log" 2>&1) || { tail -n 20 "$work/log" >&2 && exit 1; }
+    for crate in "${proved[@]}"; do
+        print_proof --verdict "$work/log" "$crate" > "$work/$name/$crate"
+    done
+    rm -rf "$work/anew"
     pack "$name" "$name.tar.gz"
 }
 
@@ -100,37 +117,18 @@ pack_javascript() {
     pack package "i_shape-$version-javascript.tgz"
 }
 
-# The folder of the Rust that the build script of the package $1 leaves of the proved source.
-erased_of() {
-    cargo check --quiet --offline --locked --manifest-path "$top/rust/$1/Cargo.toml" --target-dir "$work/target" --message-format json |
-        sed -nE "/\"build-script-executed\"/s|.*rust/$1#.*\"out_dir\":\"([^\"]*)\".*|\1/erased|p"
-}
-
-# The package $1 in the folder $2, which has its src: that Rust lies in there, and the package is no member of a workspace. It has a lock, and needs no other.
-add_erased() {
-    local its=$top/rust/$1 erased
-    erased=$(erased_of "$1")
-    cp -R "$erased" "$2/src"
-    sed -e "/^include!/{r $erased/mod.rs" -e 'd}' "$its/src/erased.rs" > "$2/src/erased.rs"
-    rm "$2/src/erased/mod.rs"
-    awk 'FNR == NR { told[$1] = $0; next } sub(/[.]workspace = true$/, "") { $0 = told[$0] } /^.build-dependencies/, /^$/ { next }
-        { sub("../../examples", "examples"); print }' "$top/rust/Cargo.toml" "$its/Cargo.toml" > "$2/Cargo.toml"
-    [ "$1" = i_shape ] || sed -n '/^\[profile/,$p' "$top/rust/Cargo.toml" | cat <(echo) - <(printf '\n[workspace]\n') >> "$2/Cargo.toml"
-    (cd "$2" && cargo generate-lockfile --quiet --offline)
-}
-
-# The crate, with the Rust that its build script leaves of the proved source, and so without that script. The example that it shares with C lies in it.
+# The crate for Rust, and in a folder of it the crate for serde.
 pack_rust() {
-    local its=$top/rust/i_shape name=i_shape-$version-rust
-    mkdir "$work/$name"
-    cp -R "$its"/{README.md,examples,src,tests} "$top"/{LICENSE,examples/clean.rs} "$work/$name"
-    mv "$work/$name/clean.rs" "$work/$name/examples"
-    add_erased i_shape "$work/$name"
+    local name=i_shape-$version-rust
+    lay_crate "$work/$name"
+    mkdir "$work/$name/serde"
+    cp -R "$top"/rust/i_shape_serde/{src,tests} "$work/$name/serde"
+    sed '/^#/d; s|path = "../i_shape"|path = ".."|' "$top/rust/i_shape_serde/Cargo.toml" > "$work/$name/serde/Cargo.toml"
     pack "$name" "$name.tar.gz"
 }
 
 # The package of the C library in the folder $1, whose build script is left with naming it. Where C is musl, Rust links programs statically, and a shared library
-# only if it is told not to.
+# only by a flag.
 add_c_library() {
     mkdir -p "$1/.cargo"
     cp -R "$top/rust/c_library/src" "$1"
@@ -146,7 +144,7 @@ pack_c() {
     sed "s|@VERSION@|$version|; s|@SONAME@|$("$top/scripts/version.sh" --soname)|" "$its/source/CMakeLists.txt" > "$work/$name/CMakeLists.txt"
     cp "$its/source/install.cmake" "$its"/cmake/* "$its/i_shape.pc.in" "$work/$name/cmake"
     cp "$top"/include/i_shape.{h,hpp} "$work/$name/include"
-    cp -R "$its/check" "$top/LICENSE" "$work/$name"
+    cp -R "$its/check" "$top"/{LICENSE,NOTICE} "$work/$name"
     cp -R "$its"/{sample.c,codes.c,sample.cpp,codes.cpp,consumer} "$top"/examples/{clean,polygons}.c "$work/$name/sample"
     sed "s|@VERSION@|$version|" "$its/source/README.md" > "$work/$name/README.md"
     add_c_library "$work/$name/rust"
@@ -196,6 +194,7 @@ pack_site() {
     cp -R "$top/docs/out" "$work/$name"
     # what is in a release is released
     find "$work/$name" -name 'CHANGELOG*' -type f -exec sed -i '/^\(<p>\)\?Not released yet\.\(<\/p>\)\?$/d' {} +
+    grep -rlZI ', not released yet,' "$work/$name" | xargs -0r sed -i 's/, not released yet,/,/'
     pack "$name" "$name.tar.gz"
 }
 
@@ -204,6 +203,7 @@ for part; do
     linux-x86_64 | linux-aarch64) pack_linux "${part#linux-}" ;;
     wheel-x86_64 | wheel-aarch64) pack_wheel "${part#wheel-}" ;;
     program-x86_64 | program-aarch64) pack_program "${part#program-}" ;;
+    proof) pack_proof ;;
     javascript) pack_javascript ;;
     qgis) pack_qgis ;;
     rust) pack_rust ;;

@@ -1,11 +1,14 @@
 #!/usr/bin/env python3
-"""Prints the file PROOF of an archive: of which crate and sources it is, and what the kit said of their proof. docs/PROOF.md explains it.
+"""Prints the file PROOF of an archive: of which crate, sources and files it is, and what the kit said of their proof. docs/PROOF.md explains it.
 
-usage: proof.py LOG CRATE
+usage: proof.py LOG CRATE [FOLDER FILE..]
+       proof.py --verdict LOG CRATE
 
-LOG is what `rt` printed as it built the crate. Of several crates in it, the last has to be this one. What is printed is the same whatever the kit had kept
-of earlier checks: it is sorted, and the words for kept work are always there.
+LOG is what `rt` printed as it built the crate. Of several crates in it, the last has to be this one. The files, in the folder, are what it was built into. What is
+printed is the same whatever the kit had kept of earlier checks: it is sorted, and the words for kept work are always there. With --verdict LOG is what
+`rt all verdict` printed, of this crate and others, and kept work in it is an error.
 """
+import argparse
 import hashlib
 import pathlib
 import re
@@ -27,12 +30,16 @@ def with_those_below(crate, crates):
     return found
 
 
+def sum_of(path):
+    return hashlib.sha256(path.read_bytes()).hexdigest()
+
+
 def sum_of_sources(crate):
     """As `sha256sum` prints it of what `sha256sum` prints of the sources, in the order of their bytes."""
     folder = TOP / "crates" / crate
     files = sorted((path.relative_to(folder).as_posix() for part in ("src", "specs", "proofs") for path in (folder / part).rglob("*") if path.is_file()),
                    key=str.encode)
-    lines = "".join(f"{hashlib.sha256((folder / name).read_bytes()).hexdigest()}  {name}\n" for name in files)
+    lines = "".join(f"{sum_of(folder / name)}  {name}\n" for name in files)
     return hashlib.sha256(lines.encode()).hexdigest()
 
 
@@ -43,24 +50,42 @@ def commit():
     return (git("rev-parse", "HEAD") + ("-changed" if git("status", "--short", "--untracked-files=no") else "")) or "unknown"
 
 
+def said_of(log, crate):
+    """The part on a crate of what `rt all verdict` printed."""
+    return dict(re.findall(r"(?ms)^== (\S+)\n(.*?)(?=^== |\Z)", log)).get(crate, "")
+
+
 def said_last(log, crate):
-    """What the kit said of the last crate of a log, which has to be this one and proved."""
+    """What the kit said of the last crate of a log, which has to be this one and proved: the lines, and the words of its verdict."""
     sections = re.findall(r"(?s)(.*?^logic=proved [^\n]*\n)", log + "\n", re.MULTILINE) or [""]
     lines = sections[-1].splitlines()
     functions = sorted(line for line in lines if re.match(r"fn .*: proved$", line))
     if not any(line.startswith(f"fn {crate}::") for line in functions):
         sys.exit(f"proof.py: the log has no verdict of {crate} at its end")
-    verdict = [word for word in lines[-1].split() if word != KEPT] + [KEPT]
-    return [*functions, *(line for line in lines if line.startswith("axioms ")), " ".join(verdict)]
+    return [*functions, *(line for line in lines if line.startswith("axioms "))], lines[-1].split()
 
 
 def main():
-    log, crate = sys.argv[1:]
-    said = said_last(pathlib.Path(log).read_text(encoding="utf-8"), crate)
-    print(f"crate {crate}", f"commit {commit()}", sep="\n")
-    for name in with_those_below(crate, (TOP / "crates.txt").read_text(encoding="utf-8")):
+    words = argparse.ArgumentParser()
+    words.add_argument("--verdict", action="store_true")
+    words.add_argument("log", type=pathlib.Path)
+    words.add_argument("crate")
+    words.add_argument("folder", type=pathlib.Path, nargs="?")
+    words.add_argument("files", nargs="*")
+    given = words.parse_args()
+    log = given.log.read_text(encoding="utf-8")
+    said, verdict = said_last(said_of(log, given.crate) if given.verdict else log, given.crate)
+    kept = [word for word in verdict if word in (KEPT, "batches=trusted")]
+    if given.verdict and kept:
+        sys.exit(f"proof.py: the verdict of {given.crate} rests on kept work: {' '.join(kept)}")
+    if not given.verdict:
+        verdict = [word for word in verdict if word != KEPT] + [KEPT]
+    print(f"crate {given.crate}", f"commit {commit()}", sep="\n")
+    for name in with_those_below(given.crate, (TOP / "crates.txt").read_text(encoding="utf-8")):
         print(f"sources {name} {sum_of_sources(name)}")
-    print(*said, sep="\n")
+    for name in sorted(given.files):
+        print(f"file {name} {sum_of(given.folder / name)}")
+    print(*said, " ".join(verdict), sep="\n")
 
 
 if __name__ == "__main__":

@@ -15,8 +15,8 @@ else
 fi
 work=$(mktemp -d)
 trap 'rm -rf "$work"' EXIT
-cargo check --quiet --offline --locked --manifest-path "$top/rust/i_shape/Cargo.toml" --target-dir "$work/target" --message-format json |
-    sed -nE '/"build-script-executed"/s|.*rust/i_shape#.*"out_dir":"([^"]*)".*|\1/erased|p' > "$work/erased"
-cp -R "$(cat "$work/erased")" "$folder/erased"
+. "$top/scripts/erased.sh"
+cp -R "$(erased_of i_shape)" "$folder/erased"
 # what is in a release is released
 sed -i '/^Not released yet\.$/,+1d' "$folder/CHANGELOG.md"
+sed -i 's/, not released yet,/,/' "$folder/README.md"

@@ -1,7 +1,7 @@
 #!/usr/bin/env bash
 # Makes the calls of C at 16 and at 64 bits, their proofs and their declarations, from those at 32 bits: i16.rt, i64.rt and i32.rt in
 # crates/i_shape_c/src/calls and its folder measures, the folders of these names in proofs/calls, and the sections of include/i_shape.h. With the word --check
-# it tells where what is there is something else.
+# it says where what is there is something else.
 set -euo pipefail
 shopt -s nullglob
 cd "$(dirname "$0")/.." || exit 1

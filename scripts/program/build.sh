@@ -1,5 +1,5 @@
 #!/usr/bin/env bash
-# Proves and builds the program i_shape_tool, as crates/i_shape_tool_main/out/i_shape_tool_main, where it isn't built or its sources are newer; standard error tells
+# Proves and builds the program i_shape_tool, as crates/i_shape_tool_main/out/i_shape_tool_main, where it isn't built or its sources are newer; standard error says
 # how far that is. Of several runs at once one builds, and the others wait for it. For another machine or processor it is proved again over the kept proofs, and built
 # as i_shape_tool in a folder of that name beside the first. That for aarch64 is linked by Debian's compiler, with an allocator and functions of the system in C,
 # since the kit has none for it.
@@ -16,7 +16,7 @@ default=$crate/out/i_shape_tool_main
 allocator=$top/bindings/c/allocator.c
 name='make program'
 log=$crate/out/build.log
-# It stands from the start of a build to its good end, so that what a build that was cut short has left is not taken for built.
+# It is there from the start of a build to its good end, so that what a build that was cut short has left is not taken for built.
 started=$crate/out/build.started
 only_asks='' target='' cpu=''
 while [ $# -gt 0 ]; do

@@ -20,7 +20,7 @@ __attribute__((constructor)) static void keep_words(int count, char **given) {
     word_count = (size_t)count;
 }
 
-/* Writes the word at a place to the front of out and answers its length, NO_WORD where there is none at that place, or NO_ROOM where it is longer than out, which
+/* Writes the word at a place to the front of out and returns its length, NO_WORD where there is none at that place, or NO_ROOM where it is longer than out, which
  * is full then. */
 ssize_t rattle_arg(size_t place, uint8_t *out, size_t room) {
     if (place >= word_count) return NO_WORD;
