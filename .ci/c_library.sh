@@ -1,5 +1,5 @@
 #!/usr/bin/env bash
-# Builds the C library and tests it, with allocators that refuse each growth in turn, and under the address sanitizer and valgrind; i_shape.hpp by two compilers;
+# Builds the C library and tests it, with allocators in which each growth fails in turn, and under the address sanitizer and valgrind; i_shape.hpp by two compilers;
 # what is built, installed and found by CMake; and the programs of the pages. With --quick by one compiler, and under neither of the tools.
 . "$(dirname "$0")/part.sh" || exit 1
 library=bindings/c/out
@@ -40,13 +40,13 @@ test_program() {
     prints "$2" "$(shown "$1" "$2")" "$work/program"
 }
 
-# Each point of refused.cpp is refused by the words that stand beside it.
-test_refused_points() {
+# The compiler rejects each point of rejected.cpp by the words beside it.
+test_rejected_points() {
     local number words
     while read -r number words; do
-        ! "${CXX:-c++}" -std=c++17 -Iinclude "-DREFUSED=$number" -fsyntax-only bindings/c/refused.cpp 2> "$work/log" && grep -qF "$words" "$work/log"
-        count $? "the point $number of refused.cpp: $words"
-    done < <(sed -nE 's|^#(el)?if REFUSED == ([0-9]+) /\* (.*) \*/$|\2 \3|p' bindings/c/refused.cpp)
+        ! "${CXX:-c++}" -std=c++17 -Iinclude "-DREJECTED=$number" -fsyntax-only bindings/c/rejected.cpp 2> "$work/log" && grep -qF "$words" "$work/log"
+        count $? "the point $number of rejected.cpp: $words"
+    done < <(sed -nE 's|^#(el)?if REJECTED == ([0-9]+) /\* (.*) \*/$|\2 \3|p' bindings/c/rejected.cpp)
 }
 
 # The programs of the page and the tests of i_shape.hpp, by the compiler $1 at the level $2.
@@ -123,7 +123,7 @@ done
 # one compiler does where time counts, the quicker of the two
 if [ -z "$is_quick" ] || ! command -v clang++ > /dev/null; then test_cpp g++ -O2; fi
 if [ -z "$is_quick" ] || command -v clang++ > /dev/null; then test_cpp clang++ -O0; fi
-test_refused_points
+test_rejected_points
 test_cmake
 test_install
 tests=("${c[@]}" bindings/c/test.c)
@@ -132,10 +132,10 @@ test_as 'C11' "${tests[@]}" "$library/libi_shape.a"
 test_hashes 'C11' "$library/libi_shape.a" "${CC:-cc}"
 test_as 'C++17' "${CXX:-c++}" -std=c++17 -x c++ bindings/c/test.c -x none "$library/libi_shape.a"
 test_as 'C11, shared' "${tests[@]}" "$library/libi_shape.so" "-Wl,-rpath,$PWD/$library"
-test_as 'each growth refused' "${tests[@]}" -DOWN_ALLOCATOR "$library/libi_shape.a"
+test_as 'each growth failing' "${tests[@]}" -DOWN_ALLOCATOR "$library/libi_shape.a"
 [ -z "$is_quick" ] || end_part
 test_as 'the allocator for other machines' "${tests[@]}" $other "$library/libi_shape.a"
-test_as 'the allocator for other machines, each growth refused' "${tests[@]}" -DWRAPPED_MALLOC -Wl,--wrap=malloc,--wrap=realloc,--wrap=free $other \
+test_as 'the allocator for other machines, each growth failing' "${tests[@]}" -DWRAPPED_MALLOC -Wl,--wrap=malloc,--wrap=realloc,--wrap=free $other \
     "$library/libi_shape.a"
 test_hardened '' "$library/libi_shape.a"
 end_part

@@ -66,14 +66,14 @@ test_change() {
 }
 
 test_changes() {
-    local ring=$work/changed/erased/i_shape_core/ring.rs
+    local ring=$work/changed/erased/i_shape_core/clean/place_ring.rs
     test_change 'a statement is gone' sed -i '0,/;$/{/;$/d}' "$ring"
     test_change 'a doc comment is gone' sed -i '0,/^ *\/\/\/ /{/^ *\/\/\/ /d}' "$ring"
     test_change 'another operator' sed -i '0,/ + 1/s// + 2/' "$ring"
-    test_change 'more is said to be a clause' sed -i '0,/"what": "ghost item"/s//"what": "clauses"/' "$work/changed/cuts/i_shape_core/ring.json"
-    test_change 'a module is left out' leave_out i_shape_core ring
-    test_change 'a public import is gone' cut_line i_shape_core 'pub use turn::Turn;' import
-    test_change 'two files lie in the place of each other' swap_files i_shape_core/ring i_shape_core/triangle
+    test_change 'more is said to be a clause' sed -i '0,/"what": "ghost item"/s//"what": "clauses"/' "$work/changed/cuts/i_shape_core/clean/place_ring.json"
+    test_change 'a module is left out' leave_out i_shape_core/clean place_ring
+    test_change 'a public import is gone' cut_line i_shape_core 'pub use turn::{Turn, triangle};' import
+    test_change 'two files lie in the place of each other' swap_files i_shape_core/clean/place_ring i_shape_core/turn/triangle
     cp -R "$(built_by i_shape_tests)" "$work/of_tests"
     sed -i '0,/HostRuntime::new()/s//HostRuntime/' "$work/of_tests/erased/i_shape_tests/shapes.rs"
     check 'a change of an erased test is found' fails python3 .ci/erased.py "$work/of_tests" rust/i_shape_tests/build.rs
@@ -91,7 +91,7 @@ test_wrong_call() {
         int8_t __wrap_$1(const i_shape_point_i32 *points, size_t count) { return (int8_t)(__real_$1(points, count) ^ (count == 7)); }"
     echo "$wrong" | "${CC:-cc}" -Iinclude -c -x c - -o "$work/wrong.o"
     compare_hashes "$library/libi_shape.a" "${CC:-cc}" "-Wl,--wrap=$1" "$work/wrong.o" > "$work/log"
-    [ $? = 1 ] && grep -q "^failed: [0-9a-f]* $1: " "$work/log" && grep -qx '104 passed, 1 failed' "$work/log" || { cat "$work/log" && false; }
+    [ $? = 1 ] && grep -q "^failed: [0-9a-f]* $1: " "$work/log" && grep -qx '119 passed, 1 failed' "$work/log" || { cat "$work/log" && false; }
     count $? "the recorded hashes: wrong answers of $1"
 }
 
@@ -106,6 +106,8 @@ test_library() {
     prints 'the C library of cargo: what it asks for' 'abort free malloc memcpy memmove memset realloc ' asks
     prints 'the C library of cargo: its calls' "$(declared)" defined
     prints 'the C library of cargo: its name' "[libi_shape.so.$(scripts/version.sh --soname)]" bash -c "readelf -d '$library/libi_shape.so' | grep -o '\[libi_shape.*\]'"
+    check 'the C library of cargo: it binds all names at its start' bash -c "readelf -dW '$library/libi_shape.so' | grep -qE '\(FLAGS_1\).*NOW'"
+    check 'the C library of cargo: its build-id' bash -c "readelf -nW '$library/libi_shape.so' | grep -q 'Build ID: '"
     check 'the recorded hashes: their calls' diff <(declared) <(cut -d ' ' -f 2- bindings/c/check/hashes.txt | sort)
     test_hashes 'the C library of cargo' "$library/libi_shape.a" "${CC:-cc}"
     test_wrong_call i_shape_is_convex_i32
@@ -114,7 +116,7 @@ test_library() {
     ln -sf libi_shape.so "$library/libi_shape.so.$(scripts/version.sh --soname)"
     test_as 'the C library of cargo' "${c[@]}" $tests "$library/libi_shape.a"
     test_as 'the C library of cargo, shared' "${c[@]}" $tests "$library/libi_shape.so" "-Wl,-rpath,$library"
-    test_as 'the C library of cargo, each growth refused' "${c[@]}" -DOWN_ALLOCATOR $tests "$library/libi_shape.a"
+    test_as 'the C library of cargo, each growth failing' "${c[@]}" -DOWN_ALLOCATOR $tests "$library/libi_shape.a"
 }
 
 # The same for what takes longer.
@@ -152,6 +154,19 @@ test_lints() {
     done
 }
 
+# The crate for serde, over Debian's copies of serde. It is outside the workspace, and its lock names what is on this machine.
+test_serde() {
+    local registry=/usr/share/cargo/registry words
+    needs 'the crate for serde' "there is no librust-serde-derive-dev or librust-serde-json-dev" ls $registry/serde_{derive,json}-1.* || return
+    words=(--manifest-path rust/i_shape_serde/Cargo.toml --config 'source.crates-io.replace-with="debian"' --config "source.debian.directory='$registry'")
+    check 'the crate for serde, its lock' cargo generate-lockfile --quiet "${words[@]}"
+    add 'the crate for serde' test_crate "${words[@]}" --target-dir rust/target/serde
+    needs 'the crate for serde, cargo clippy' 'there is no such command' cargo clippy --help &&
+        check 'the crate for serde, cargo clippy' cargo clippy --quiet --all-targets "${words[@]}" --target-dir rust/target/serde -- -D warnings -D clippy::incompatible_msrv
+    needs 'the crate for serde, cargo fmt' 'there is no such command' cargo fmt --help &&
+        check 'the crate for serde, cargo fmt' cargo fmt --check --manifest-path rust/i_shape_serde/Cargo.toml
+}
+
 needs 'cargo' 'there is no cargo from 1.85 on' bash -c '[[ $(cargo --version) =~ ^cargo\ 1\.([0-9]+) ]] && [ "${BASH_REMATCH[1]}" -ge 85 ]' || end_part
 machine=$(cargo --version --verbose | sed -n 's/^host: //p')
 library=$PWD/rust/target/$machine/release
@@ -179,5 +194,6 @@ if [ -z "$is_quick" ]; then
     test_changes
     test_library_longer
     test_lints
+    test_serde
 fi
 end_part

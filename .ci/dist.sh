@@ -65,13 +65,14 @@ is_hardened() {
         ! readelf -SW "$1" | grep -q ' \.symtab ' && { [[ $1 != *.so* ]] || [ "$(stat -Lc %a "$1")" = 644 ]; }
 }
 
-# PROOF, or the file $2, is of the crate $1 and of the sources whose sums it has.
+# PROOF, or the file $2, is of the crate $1, and of the sources and the files whose sums it has.
 is_of() {
     local file=${2-PROOF} name sum
     [ "$(head -n 1 "$file")" = "crate $1" ] && grep -q "^sources $1 " "$file" || return
     while read -r name sum; do
         [ "$(cd "$top/crates/$name" && find src specs proofs -type f 2> /dev/null | sort | xargs sha256sum | sha256sum)" = "$sum  -" ] || return
     done < <(sed -n 's/^sources //p' "$file")
+    grep -q '^file ' "$file" && sha256sum --quiet -c <(sed -nE 's/^file (.*) ([0-9a-f]+)$/\2  \1/p' "$file")
 }
 
 # Each function that the header declares was proved, and so was the whole, for the machine $1.
@@ -249,7 +250,7 @@ raise SystemExit(told.failed or not told.attempted)
 PROGRAM
 }
 
-# pip takes the wheel of this machine, which answers, and not that of another.
+# pip takes the wheel of this machine, which works, and not that of another.
 test_installed() {
     local own=$work/environment/bin/python wheels=$work/dist/i_shape-$version-py3-none-manylinux_2_17
     local pip=("$own" -m pip install --isolated --no-index --no-deps)
@@ -266,7 +267,7 @@ assert library._path().name == "libi_shape.so"
 PROGRAM
     is_packed wheel-aarch64 || return
     ! "${pip[@]}" "${wheels}_aarch64.whl" > "$work/log" 2>&1 && grep -q 'not a supported wheel' "$work/log"
-    count $? 'wheel-aarch64: refused on x86_64'
+    count $? 'wheel-aarch64: rejected on x86_64'
 }
 
 # The sample of the package's page in the language $1, or the one of these that has the word $2.
@@ -326,7 +327,7 @@ are_modules() {
 # The crate passes its tests, with what its build script leaves of the proved source in place of that script.
 test_rust() {
     local archive=i_shape-$version-rust.tar.gz its erased
-    its=$(cd "$top/rust/i_shape" && find examples src tests -type f)
+    its=$(cd "$top/rust/i_shape" && find examples src tests -type f)$(cd "$top/rust/i_shape_serde" && find Cargo.toml src tests -type f -printf '\nserde/%p')
     erased=$(tar -tzf "$work/dist/$archive" | sed -nE 's|^[^/]*/(src/erased/.*[.]rs)$|\1|p')
     unpack rust "$archive" LICENSE README.md Cargo.{lock,toml} examples/clean.rs $its $erased && has 'rust: its tests' cargo || return
     check 'rust: each erased file is a module' are_modules $erased
@@ -338,7 +339,7 @@ test_rust() {
 test_c() {
     local archive=i_shape-$version-c.tar.gz erased command folder prefix=$work/prefix root=$work/root
     erased=$(tar -tzf "$work/dist/$archive" | sed -nE 's|^[^/]*/(rust/src/erased/.*[.]rs)$|\1|p')
-    unpack c "$archive" CMakeLists.txt LICENSE README.md check/{CMakeLists.txt,hashes.{c,h,txt}} cmake/i_shape{-config.cmake.in,-config-version.cmake.in,-targets.cmake,.pc.in} \
+    unpack c "$archive" CMakeLists.txt LICENSE NOTICE README.md check/{CMakeLists.txt,hashes.{c,h,txt}} cmake/i_shape{-config.cmake.in,-config-version.cmake.in,-targets.cmake,.pc.in} \
         cmake/install.cmake include/i_shape.{h,hpp} rust/{.cargo/config.toml,Cargo.{lock,toml},build.rs,src/{erased,host,lib,wasm}.rs} \
         sample/{consumer/CMakeLists.txt,{clean,codes,polygons,sample}.c,{codes,sample}.cpp} $erased || return
     check 'c: each erased file is a module' are_modules $erased
@@ -350,7 +351,7 @@ test_c() {
     folder=lib/x86_64-linux-gnu
     cmake -S . -B build "-DI_SHAPE_TARGET_DIR=$PWD/corners/i_shape/cargo" "-DCMAKE_INSTALL_PREFIX=$prefix" -DCMAKE_INSTALL_LIBDIR=$folder > "$work/log" 2>&1 &&
         cmake --build build >> "$work/log" 2>&1 && DESTDIR=$root cmake --install build >> "$work/log" 2>&1 || cat "$work/log"
-    check 'c: what is installed' diff <(printf '%s\n' include/i_shape.{h,hpp} $folder/{libi_shape.{a,so{,."$soname",."$version"}},pkgconfig/i_shape.pc} share/doc/i_shape/{LICENSE,README.md} \
+    check 'c: what is installed' diff <(printf '%s\n' include/i_shape.{h,hpp} $folder/{libi_shape.{a,so{,."$soname",."$version"}},pkgconfig/i_shape.pc} share/doc/i_shape/{LICENSE,NOTICE,README.md} \
         $folder/cmake/i_shape/i_shape-{config,config-version,files,targets}.cmake | sort) <(cd "$root$prefix" && find . -type f,l | sed 's|^\./||' | sort)
     check 'c: ctest' ctest --test-dir build --no-tests=error
     check "c: its library's name" grep -q "SONAME.*\[libi_shape.so.$soname\]" <(readelf -dW "$root$prefix/$folder/libi_shape.so")
@@ -380,7 +381,7 @@ test_c_names() {
     check "c: the names for $1" diff <(printf '%s\n' "${@:2}" | sort) <(cd named && find bin lib -maxdepth 1 -type f,l 2> /dev/null | sort)
 }
 
-# pip builds the source distribution by cargo, and refuses to without one that is new enough. Only the names of its files are tried for other systems.
+# pip builds the source distribution by cargo, and stops without one that is new enough. Only the names of its files are tried for other systems.
 test_python() {
     local own=$work/from_source/bin/python archive=$work/dist/i_shape-$version.tar.gz pip
     pip=("$own" -m pip install --isolated --no-index --no-deps --no-build-isolation)
@@ -439,7 +440,7 @@ test_source() {
     go_to_empty
     tar -xzf "$work/dist/i_shape-$version-source.tar.gz" && cd ./*/ || { count 1 'source: unpacked' && return 1; }
     check 'source: definitions, examples and measurements' ls COMMIT NOTICE SECURITY.md crates/i_shape_{core,laws,contacts}/specs/Lib.antt examples/theorem.py bench/run.sh
-    check 'source: it is released' fails grep -q 'Not released yet' CHANGELOG.md
+    check 'source: it is released' fails grep -qi 'not released yet' CHANGELOG.md README.md
     prints 'source: its program, by cargo' '0 0 4 0 4 4 0 4' ./i_shape_tool simplify < <(echo 0 0 2 0 4 0 4 4 0 4)
     is_packed rust || return
     mkdir ../rust && tar -xzf "$work/dist/i_shape-$version-rust.tar.gz" -C ../rust --strip-components=1
@@ -462,8 +463,9 @@ test_site() {
     local sample
     go_to_empty
     tar -xzf "$work/dist/i_shape-$version-site.tar.gz" && cd ./*/ || { count 1 'site: unpacked' && return 1; }
-    check 'site: it is released' fails grep -rlE 'Not released yet' .
+    check 'site: it is released' fails grep -rliE 'not released yet' .
     check 'site: its first page' test -s index.html
+    check 'site: it names no folder in which it was built' fails grep -rlF "$top" .
     # the page of C names the samples that the archive of the library has
     is_packed linux-x86_64 || return
     for sample in $(grep -oE 'sample/[a-z]+\.(c|cpp)' docs/C.html | sort -u); do

@@ -1,7 +1,7 @@
 #!/usr/bin/env bash
-# Runs the tests of the C library for other processors and systems, and under the thread sanitizer. The program for aarch64 answers a thousand texts by the bytes
-# of the one for x86-64, and builds by two compilers, for two processors, and for Windows answer random calls the same. The library that cargo builds is tested
-# where bytes lie the other way round, at 32 bits, and for Windows.
+# Runs the tests of the C library for other processors and systems, and under the thread sanitizer. Of a thousand texts the program for aarch64 prints the bytes of
+# the one for x86-64, and builds by two compilers, for two processors, and for Windows return the same of random calls. The library that cargo builds is tested where
+# bytes lie the other way round, at 32 bits, and for Windows.
 . "$(dirname "$0")/part.sh" || exit 1
 trap end EXIT
 export WINEPREFIX=$work/wine
@@ -12,12 +12,12 @@ of_aarch64=/usr/aarch64-linux-gnu
 # Removes what the tests have made. Wine leaves a server behind that keeps its folder.
 end() { [ -e "$work/wine" ] && wineserver -k 2> /dev/null; rm -rf "$work"; }
 
-# The sample over the archive $2 prints the corners of its contour, and the tests pass, also with each growth refused. The words from $3 on compile them.
+# The sample over the archive $2 prints the corners of its contour, and the tests pass, also with each growth failing. The words from $3 on compile them.
 test_archive() {
     "${@:3}" "${warnings[@]}" -Iinclude bindings/c/sample.c "$2" -o "$work/sample" || rm -f "$work"/sample*
     prints "$1: the sample" "$corners" "${runner[@]}" "$work/sample"
     test_as "$1" "${@:3}" $tests "$2"
-    test_as "$1, each growth refused" "${@:3}" -DOWN_ALLOCATOR $tests "$2"
+    test_as "$1, each growth failing" "${@:3}" -DOWN_ALLOCATOR $tests "$2"
     test_hashes "$1" "$2" "${@:3}"
 }
 
@@ -62,7 +62,7 @@ test_builds() {
     check 'the builds for x86-64-v2 and for each x86-64' "$work/compare" 5000 bindings/c/out/{,x86-64/}libi_shape.so
 }
 
-# The program answers each text, and what is no command, as the one for x86-64 does: both streams, and the status. A fifth of the texts have a fault.
+# The program does with each text, and with what is no command, as the one for x86-64 does: both streams, and the status. A fifth of the texts have a fault.
 test_program() {
     has_aarch64 'the program for aarch64' && has_built 'the program for aarch64' scripts/program/build.sh --target aarch64 || return
     add 'the program for aarch64' "$python" - $of_aarch64 << 'PROGRAM'
@@ -137,7 +137,7 @@ build_for() {
         --config profile.dev.package.i_shape_c_library.opt-level=1 "${@:2}" -Zbuild-std=core,alloc --locked --quiet --target "$1"
 }
 
-# The library that cargo builds for the target $2 answers as recorded. The C compiler $3 links it, and the words of the array runner run it, by the program $4.
+# The library that cargo builds for the target $2 returns what is recorded. The C compiler $3 links it, and the words of the array runner run it, by the program $4.
 test_target_hashes() {
     name="cargo for $1" library=$PWD/rust/target/elsewhere/$2/debug/libi_shape.a c=("$3" -std=c11 -static)
     has "$name" "$3" "$4" || return
@@ -152,7 +152,7 @@ test_target() {
     test_target_hashes "$@" || return
     test_as "$name" "${c[@]}" $tests "$library"
     # a program brings its own allocator where names can be weak
-    [[ $2 = *windows* ]] || test_as "$name, each growth refused" "${c[@]}" -DOWN_ALLOCATOR $tests "$library"
+    [[ $2 = *windows* ]] || test_as "$name, each growth failing" "${c[@]}" -DOWN_ALLOCATOR $tests "$library"
 }
 
 # Where bytes lie the other way round, at 32 bits, and without weak names all tests run, elsewhere the hashes alone. For a target without a system the crate for Rust

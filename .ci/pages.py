@@ -3,11 +3,11 @@
 
 usage: .ci/pages.py [--quick] [PAGE..]
 
-- a block `rust`: each of its items stands in one source of the crates, of the crate for Rust or of the examples, word for word but for clauses, attributes and
+- a block `rust`: each of its items is in one source of the crates, of the crate for Rust or of the examples, word for word but for clauses, attributes and
   doc lines that the page leaves out; and what the block imports is imported there;
-- a block `text` with clauses, or `antt`: each of its lines stands in a source of the crates, or in a file of definitions;
-- a block `c`, `cpp` or `js`: it stands in a file of C or C++, or is a file of JavaScript;
-- a block `console`: its commands run in order, as in one shell at the top of a clone named raspochre, each printing what stands below it;
+- a block `text` with clauses, or `antt`: each of its lines is in a source of the crates, or in a file of definitions;
+- a block `c`, `cpp` or `js`: it is in a file of C or C++, or is a file of JavaScript;
+- a block `console`: its commands run in order, as in one shell at the top of a clone named raspochre, each printing what follows it;
 - the links within the repository: the page is there, and the heading; and no line of a merge is left;
 - docs/develop/README.md has an item for each part of the gate, and names each edit of must-fail/ and no edit that isn't there;
 - the version in CHANGELOG.md, the archive, the packages for Python and JavaScript, the extension of PostgreSQL and the crate for Rust is that of the header.
@@ -111,7 +111,7 @@ def holds(source, item):
 
 
 def fault_of_rust(text):
-    """What of a block stands in no source; nothing where all does."""
+    """What of a block is in no source; nothing where all is."""
     for name in files(RUST) if items(text) else []:
         source = with_whole_clauses(read(name))
         if all(holds(source, item) for item in items(text)):
@@ -121,14 +121,14 @@ def fault_of_rust(text):
 
 
 def first_strange(text, sources):
-    """Which line of a text stands in none of these sources."""
+    """Which line of a text is in none of these sources."""
     known = {line.strip().rstrip(";,") for source in sources for line in source.splitlines()}
     lines = (line.strip() for line in text.splitlines() if not line.startswith("//"))
     return next((f"no source has the line: {line}" for line in lines if line and line.rstrip(";,") not in known), None)
 
 
 def fault_of_clauses(text):
-    """What of a quoted contract stands in no source. A block without clauses is no quotation."""
+    """What of a quoted contract is in no source. A block without clauses is no quotation."""
     is_quoted = re.search(r"^\s*(requires|ensures|ghost)\b", text, re.MULTILINE)
     return first_strange(with_whole_clauses(text), (with_whole_clauses(read(name)) for name in files(RUST))) if is_quoted else None
 
@@ -194,6 +194,7 @@ def fault_of_version():
     told = {
         "crates/i_shape_c/src/version.rt": rf"MAJOR: u32 = {major};.*MINOR: u32 = {minor};.*PATCH: u32 = {patch};",
         "rust/Cargo.toml": rf'^version = "{version}"$',
+        "rust/i_shape_serde/Cargo.toml": rf'^version = "{version}"$.*^i_shape = .*version = "{version}" }}$',
         "bindings/js/package.json": rf'^ *"version": "{version}",$',
         "bindings/postgres/i_shape.control": rf"^default_version = '{major}\.{minor}'$",
         "bindings/python/src/i_shape/_library.py": rf"^_VERSION = 0x{major:02x}{minor:02x}\b",

@@ -23,7 +23,7 @@ count() {
     if [ "$1" = 0 ]; then passed=$((passed + 1)); else failed=$((failed + 1)) && echo "failed: $2"; fi
 }
 
-# Counts the test $1: the words from $2 on, whose output is told where they fail.
+# Counts the test $1: the words from $2 on, whose output is printed where they fail.
 check() {
     "${@:2}" > "$work/log" 2>&1
     local status=$?
@@ -119,7 +119,7 @@ test_hardened() {
     local tests=("${CC:-cc}" -std=c11 bindings/c/test.c) runner=() sanitizers=(-fsanitize=address,undefined -fno-sanitize-recover=undefined)
     if needs "$1address sanitizer" 'the compiler has none that runs here' compiles_with "${sanitizers[@]}"; then
         test_as "$1address sanitizer" "${tests[@]}" bindings/c/allocator.c "${sanitizers[@]}" "$2"
-        test_as "$1address sanitizer, each growth refused" "${tests[@]}" "${sanitizers[@]}" -DOWN_ALLOCATOR "$2"
+        test_as "$1address sanitizer, each growth failing" "${tests[@]}" "${sanitizers[@]}" -DOWN_ALLOCATOR "$2"
         test_as "$1address sanitizer, i_shape.hpp" "${CXX:-c++}" -std=c++17 "${sanitizers[@]}" bindings/c/test.cpp "$2"
         test_hashes "$1address sanitizer" "$2" "${CC:-cc}" "${sanitizers[@]}"
     fi
@@ -129,7 +129,7 @@ test_hardened() {
     fi
 }
 
-# Compiles the program $3 that answers as the library $2 does at the width $1, by the words from $4 on.
+# Compiles the program $3, which prints what the library $2 returns at the width $1, by the words from $4 on.
 compile_answers() {
     "${@:4}" -std=c11 -O2 -Wall -Wextra -Werror "-DWIDTH=$1" "-DWIDTH_TWICE=$((2 * $1))" -Iinclude bindings/js/test/native/answers.c "$2" -o "$3"
 }

@@ -35,10 +35,10 @@ LANES = ((".ci/cargo.sh --rest", ".ci/elsewhere.sh", ".ci/sqlite.sh", ".ci/qgis.
          (".ci/python_package.sh", ".ci/postgres.sh", ".ci/javascript.sh", ".ci/dist.sh", "python3 .ci/refusals.py", ".ci/scaling.sh", ".ci/pictures.sh",
           "python3 .ci/pages.py"))
 AFTER_PROOFS = (C_LIBRARY, *LANES[0], *LANES[1])
-# The wrong bodies of the core, below which there is no library, are tried beside rt ci. Those of the other crates are tried over the libraries that rt ci has
+# The mutants of the core, below which there is no library, are tried beside rt ci. Those of the other crates are tried over the libraries that rt ci has
 # built, and so is the C library built, since theirs are tried over what it keeps.
-WRONG_BODIES_OF_CORE = "nice -n 10 python3 .ci/wrong.py --lanes 1 --only i_shape_core"
-OTHER_WRONG_BODIES = "sh -c 'python3 .ci/mark_proved.py; bash bindings/c/build.sh && exec python3 .ci/wrong.py --except i_shape_core'"
+MUTANTS_OF_CORE = "nice -n 10 python3 .ci/wrong.py --lanes 1 --only i_shape_core"
+OTHER_MUTANTS = "sh -c 'python3 .ci/mark_proved.py; bash bindings/c/build.sh && exec python3 .ci/wrong.py --except i_shape_core'"
 
 
 def counts_of(said, status):
@@ -89,7 +89,7 @@ class Parts:
             signal.signal(number, handler)
 
     def run(self, command, folder):
-        """Runs a part in a folder, and tells what it says."""
+        """Runs a part in a folder, and prints what it says."""
         lines = []
 
         def listen(said):
@@ -98,7 +98,7 @@ class Parts:
                     lines.append(line)
                     print(line, end="", flush=True)
             except OSError:
-                # whom it is told to has gone
+                # the reader of the output has gone
                 os.kill(os.getpid(), signal.SIGTERM)
 
         how = {"stdin": subprocess.DEVNULL, "stdout": subprocess.PIPE, "stderr": subprocess.STDOUT, "text": True, "errors": "replace"}
@@ -160,10 +160,10 @@ def run_tests(parts):
         lane.join()
 
 
-def try_wrong_bodies_of_core(parts, copy):
+def try_mutants_of_core(parts, copy):
     """In a copy of the crates, since rt ci moves what other commands keep in its checkout out of the way."""
     shutil.copytree(TOP, copy, symlinks=True, ignore=LEFT_OUT)
-    parts.run(WRONG_BODIES_OF_CORE, copy)
+    parts.run(MUTANTS_OF_CORE, copy)
 
 
 def run_gate(parts):
@@ -172,9 +172,9 @@ def run_gate(parts):
     shutil.copytree(TOP, checkout, symlinks=True, ignore=LEFT_OUT)
     for command in BEFORE_PROOFS:
         parts.run(command, checkout)
-    tried = parts.beside(try_wrong_bodies_of_core, f"{parts.work}/copy")
+    tried = parts.beside(try_mutants_of_core, f"{parts.work}/copy")
     parts.run("rt ci", checkout)
-    parts.run(OTHER_WRONG_BODIES, checkout)
+    parts.run(OTHER_MUTANTS, checkout)
     tried.join()
     parts.run(C_LIBRARY, checkout)
     for lane in [parts.beside(Parts.run_all, commands, checkout) for commands in LANES]:

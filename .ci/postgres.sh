@@ -1,5 +1,5 @@
 #!/usr/bin/env bash
-# Builds the extension of PostgreSQL over the library of `make c`, and tests it in a server of its own. With --quick no growth is refused.
+# Builds the extension of PostgreSQL over the library of `make c`, and tests it in a server of its own. With --quick no growth fails.
 . "$(dirname "$0")/part.sh" && . .ci/server.sh || exit 1
 library=$PWD/bindings/c/out
 here=bindings/postgres
@@ -15,9 +15,14 @@ test_folder() {
     check 'make postgres I_SHAPE_C_DIR=..' make -s postgres "I_SHAPE_C_DIR=$folder" "PG_CONFIG=$bin/pg_config"
     [ -e bindings/postgres/out/i_shape.so ] && ! strings bindings/postgres/out/i_shape.so | grep -q 'Build the extension with CPU=x86-64'
     count $? 'make postgres I_SHAPE_C_DIR=..: the library of a release is for each x86-64'
+    # without a kit the library is cargo's, which CMake installs beside no other file
+    rm -r "$folder/glibc-hwcaps"
+    needs 'make postgres I_SHAPE_C_DIR=..: the library of cargo' 'the library is not of cargo' [ -e "$library/by_cargo" ] || return
+    check 'make postgres I_SHAPE_C_DIR=.., over the library of cargo' make -s postgres "I_SHAPE_C_DIR=$folder" "PG_CONFIG=$bin/pg_config"
+    check 'make postgres I_SHAPE_C_DIR=..: the library of cargo is for each x86-64' fails grep -q 'Build the extension with CPU=x86-64' bindings/postgres/out/i_shape.so
 }
 
-# A statement, or more words, of psql. An error ends it, and is told as an answer.
+# A statement, or more words, of psql. An error ends it, and is printed as a result is.
 ask() { psql -XAtq -v ON_ERROR_STOP=1 "$@" 2>&1; }
 
 test_regress() {
@@ -50,7 +55,7 @@ test_python_keys() {
         count(*) FILTER (WHERE i_shape_key(ST_GeomFromEWKB(wkb), 0.25) IS NOT DISTINCT FROM nullif(by_default, '')) FROM python_keys"
 }
 
-# What SQLite answers of the same geometries, from a GeoPackage and as EWKB.
+# What SQLite returns of the same geometries, from a GeoPackage and as EWKB.
 test_sqlite() {
     needs 'the bytes of SQLite' 'there is no sqlite3ext.h, of libsqlite3-dev' [ -e /usr/include/sqlite3ext.h ] || return
     make -s -f bindings/sqlite/Makefile "I_SHAPE_C_DIR=$library" "OUT=$work/sqlite" > "$work/log" 2>&1 || cat "$work/log"
@@ -69,17 +74,17 @@ test_sqlite() {
         WHERE simplified = ST_AsEWKB(i_shape_simplify(ST_GeomFromEWKB(wkb), step)) AND digest IS NOT DISTINCT FROM i_shape_digest(ST_GeomFromEWKB(wkb), step)"
 }
 
-# Each growth of memory in each call, refused; and answers above what a server takes, which this module has lowered to 1000 bytes.
-test_refusals() {
-    sed 's/AS .MODULE_PATHNAME./AS '"'${work//\//\\/}\/refusing\/i_shape'"'/; /^\\echo/d' "$here"/i_shape--*.sql > "$work/refusing.sql"
-    mkdir -p "$work/refusing/tests" && build_postgres "$work/refusing" MORE_OBJS=tests/refuse.o MORE_CPPFLAGS=-DMOST_BYTES=1000 > "$work/log" 2>&1 || cat "$work/log"
-    ask -c 'CREATE DATABASE refusing' -d template1
-    ask -d refusing -c 'SET client_min_messages = error' -c 'CREATE EXTENSION postgis' -f "$work/refusing.sql"
-    ask -d refusing -v "module=$work/refusing/i_shape" < "$here/tests/refuse.sql" > "$work/printed"
-    check 'each allocation refused, and answers that are too long' diff "$here/tests/refuse.out" "$work/printed"
+# Each growth of memory in each call, failing; and results above what a server takes, which this module has lowered to 1000 bytes.
+test_failed_growths() {
+    sed 's/AS .MODULE_PATHNAME./AS '"'${work//\//\\/}\/failing\/i_shape'"'/; /^\\echo/d' "$here"/i_shape--*.sql > "$work/failing.sql"
+    mkdir -p "$work/failing/tests" && build_postgres "$work/failing" MORE_OBJS=tests/fail_growth.o MORE_CPPFLAGS=-DMOST_BYTES=1000 > "$work/log" 2>&1 || cat "$work/log"
+    ask -c 'CREATE DATABASE failing' -d template1
+    ask -d failing -c 'SET client_min_messages = error' -c 'CREATE EXTENSION postgis' -f "$work/failing.sql"
+    ask -d failing -v "module=$work/failing/i_shape" < "$here/tests/fail_growth.sql" > "$work/printed"
+    check 'each allocation failing, and results that are too long' diff "$here/tests/fail_growth.out" "$work/printed"
 }
 
-# A module that finds a processor without SSE4.2 refuses to be loaded.
+# A module that finds a processor without SSE4.2 fails to load.
 test_processor() {
     needs 'a processor without SSE4.2' 'this one is no x86-64' [ "$(uname -m)" = x86_64 ] || return
     needs 'a processor without SSE4.2' "cargo's library is for each x86-64" [ ! -e "$library/by_cargo" ] || return
@@ -100,9 +105,11 @@ test_module
 test_restore
 test_python_keys
 test_sqlite
-[ -n "$is_quick" ] || test_refusals
+[ -n "$is_quick" ] || test_failed_growths
 test_processor
 test_folder
 ask -d template1 -c 'CREATE DATABASE page'
 add 'docs/POSTGIS.md' env PATH="$bin:$PATH" PGDATABASE=page python3 .ci/pages.py docs/POSTGIS.md
+make -s uninstall-postgres "PG_CONFIG=$bin/pg_config" > "$work/log" 2>&1 && [ -z "$(find "$work/own" -name 'i_shape*')" ]
+count $? 'make uninstall-postgres'
 end_part

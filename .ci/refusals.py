@@ -27,7 +27,7 @@ def build(library):
 
 
 class Run:
-    """A run of a test with one growth refused: the calls that it told of as done and as refused, and its faults."""
+    """A run of a test with one growth refused: the calls that it printed as done and as refused, and its faults."""
 
     def __init__(self, library, test, growth):
         told = {**os.environ, "LD_PRELOAD": library, "REFUSED_GROWTH": str(growth)}
@@ -44,7 +44,7 @@ class Run:
                 (self.refused if within else self.done).append(what[1])
                 call, within = None, False
             elif what:
-                # one that doesn't tell that it begins is alone in its test
+                # one that doesn't print that it begins is alone in its test
                 if (what[2] == "refused") != within and (call == what[1] or what[2] == "refused" or self.has_refused):
                     self.faults.append(f"{line}, with a growth refused within it" if within else line)
                 getattr(self, what[2]).append(what[1])

@@ -1,5 +1,5 @@
 // A library for LD_PRELOAD that refuses one growth of the memory of a proved program, which takes it by malloc and realloc alone, and counts the blocks that it
-// holds. REFUSED_GROWTH in the environment is that growth's number, counted from 1 once the libraries are loaded. The refusal is told on standard output, and at
+// holds. REFUSED_GROWTH in the environment is that growth's number, counted from 1 once the libraries are loaded. The failure is printed on standard output, and at
 // the end how many blocks are left. The functions of glibc behind malloc, realloc and free have the names below.
 #include <stdio.h>
 #include <stdlib.h>
@@ -21,7 +21,7 @@ __attribute__((destructor)) static void tell_blocks(void) {
     dprintf(1, "blocks left: %ld\n", blocks);
 }
 
-// Counts a growth, and answers whether it is the one to refuse.
+// Counts a growth, and returns whether it is the one to refuse.
 static _Bool is_refused(void) {
     return growths_left > 0 && --growths_left == 0 && dprintf(1, "growth refused\n");
 }

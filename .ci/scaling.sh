@@ -29,7 +29,7 @@ count $? 'parts in files'
 parted --block 100k --sshlogin 2/: simplify < "$work/text" | cmp "$work/one" -
 count $? 'parts for a host'
 
-# A fault: its part answers nothing and tells its line, and the other parts answer.
+# A fault: its part prints nothing but the line of the fault, and the other parts their results.
 sed '2500s/.*/1 2 3/; 4000q' "$work/text" > "$work/faulty"
 parted -N 1000 --tagstring 'part {#}:' simplify < "$work/faulty" > "$work/parts" 2> "$work/told"
 [ $? = 1 ] && grep -q '^part 3:.*line 500: not a contour$' "$work/told" && sed -n '1,2000p; 3001,4000p' "$work/one" | cmp - <(sed 's/^part [0-9]*:\t//' "$work/parts")

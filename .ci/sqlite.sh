@@ -26,6 +26,12 @@ test_fuzz() {
     check "$1, compiled" compile_fuzz "$work/fuzz" "${@:3}" && check "$1" "$work/fuzz" "$2"
 }
 
+# The rule by which coordinates are rounded onto a grid, row by row of its table.
+test_grid() {
+    "${CC:-cc}" -std=gnu11 -O2 -Wall -Wextra -Werror -Iinclude "-I$shared" "$shared"/{wkb,forms,tests/grid}.c "$library/libi_shape.a" -lm -lpthread \
+        -o "$work/grid" && "$work/grid" bindings/grid.txt
+}
+
 # A statement, or more words, of the shell, in which the extension is loaded by one line.
 ask() { sqlite3 -batch "$@" 2>&1; }
 
@@ -34,8 +40,8 @@ test_shell() {
     local square="x'0103000000010000000500000000000000000000000000000000000000000000000000f03f0000000000000000000000000000f03f000000000000f03f0000000000000000000000000000f03f00000000000000000000000000000000'"
     prints 'a line of the shell' 1 ask :memory: ".load $work/out/mod_i_shape" "SELECT i_shape_is_clean($square, 1)"
     prints 'a file of another name' 2 ask :memory: ".load $work/renamed" "SELECT i_shape_area_two($square, 1)"
-    prints 'a refusal' 'i_shape: step is a text, and a finite number above 0 is needed' \
-        bash -c "sqlite3 -batch :memory: '.load $work/out/mod_i_shape' \"SELECT i_shape_key(x'00', '1')\" 2>&1 | grep -o 'i_shape: .* needed'"
+    prints 'an error' 'i_shape: step is a text, not a finite number above 0' \
+        bash -c "sqlite3 -batch :memory: '.load $work/out/mod_i_shape' \"SELECT i_shape_key(x'00', '1')\" 2>&1 | grep -o 'i_shape: step .*'"
     prints 'the version' "$(sed -n '/^## /{s/^## //p;q}' CHANGELOG.md)" ask :memory: ".load $work/out/mod_i_shape" 'SELECT i_shape_version()'
 }
 
@@ -52,7 +58,7 @@ test_module() {
     check 'what is installed' cmp "$work/out/mod_i_shape.so" "$work/installed/usr/lib/mod_i_shape.so"
 }
 
-# A module that finds a processor without SSE4.2 refuses to be loaded.
+# A module that finds a processor without SSE4.2 fails to load.
 test_processor() {
     needs 'a processor without SSE4.2' 'this one is no x86-64' [ "$(uname -m)" = x86_64 ] || return
     needs 'a processor without SSE4.2' "cargo's library is for each x86-64" [ ! -e "$library/by_cargo" ] || return
@@ -84,6 +90,7 @@ run_tests() {
 }
 
 has_c_library sqlite || end_part
+add 'the table of the grid' test_grid
 [ -n "$is_quick" ] || test_fuzz 'mutated WKB' $wkbs "$shared/tests/fuzz.c"
 needs sqlite 'there is no sqlite3ext.h, of libsqlite3-dev' [ -e /usr/include/sqlite3ext.h ] || end_part
 [ -n "$is_quick" ] || test_fuzz 'mutated blobs' $blobs "$here"/{extension,blobs,sha256}.c "$here/tests/fuzz.c" -lsqlite3

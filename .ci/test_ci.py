@@ -63,6 +63,42 @@ class ProofTest(Case):
         self.assertEqual(lines[-4:], ["fn i_shape_c::a: proved", "fn i_shape_c::b: proved", "axioms libc: malloc",
                                       "logic=proved functions=2 sum=1 statements=trusted incremental=trusted"])
 
+    def test_files(self):
+        """What was built has its sum, which `sha256sum -c` finds."""
+        write(f"{self.room}/built/lib/a", "a")
+        write(f"{self.room}/log", self.LAST)
+        printed = self.run_in(TOP, sys.executable, "scripts/proof.py", f"{self.room}/log", "i_shape_c", f"{self.room}/built", "lib/a").stdout
+        self.assertIn("\nfile lib/a ca978112ca1bbdcafac231b39a23dc4da786eff8147c4e72b9807785afee48bb\nfn i_shape_c::a: proved\n", printed)
+
+    RT = """#!/bin/sh
+[ "$*" = "all verdict" ] && [ "$(sed 's/[ :].*//' crates.txt | sort)" = "$(ls crates)" ] && [ ! -e "$STAND_IN/fails" ] || exit 1
+for crate in $(sed 's/[ :].*//' crates.txt); do
+    [ ! -e "crates/$crate/out" ] || exit 1
+    printf '== %s\\nfn %s::a: proved\\nlogic=proved functions=1 statements=trusted%s\\n' "$crate" "$crate" "$(cat "$STAND_IN/kept")"
+done
+echo i_shape_core: ok
+"""
+
+    def test_verdicts(self):
+        """A release has the verdict of each crate from nothing, or isn't packed."""
+        write(f"{self.room}/bin/rt", self.RT)
+        self.environment["SOURCE_DATE_EPOCH"] = "1000000000"
+        pack = "bash", "scripts/dist.sh", f"{self.room}/dist", "proof"
+        write(f"{self.room}/kept", "")
+        self.assertEqual(self.run_in(TOP, *pack).returncode, 0)
+        version = self.run_in(TOP, "scripts/version.sh").stdout.strip()
+        folder = f"i_shape-{version}-proof"
+        self.run_in(self.room, "tar", "-xzf", f"dist/{folder}.tar.gz")
+        crates = "i_shape", "i_shape_c", "i_shape_contacts", "i_shape_core", "i_shape_laws", "i_shape_source", "i_shape_tool", "i_shape_tool_main"
+        self.assertEqual(sorted(os.listdir(f"{self.room}/{folder}")), sorted(crates))
+        for crate in crates:
+            lines = pages.read(f"{self.room}/{folder}/{crate}").splitlines()
+            self.assertEqual([lines[0], *lines[-2:]], [f"crate {crate}", f"fn {crate}::a: proved", "logic=proved functions=1 statements=trusted"])
+        write(f"{self.room}/kept", " incremental=trusted")
+        self.assertIn("rests on kept work", self.run_in(TOP, *pack).stderr)
+        write(f"{self.room}/fails", "")
+        self.assertEqual(self.run_in(TOP, *pack).returncode, 1)
+
     def test_another_crate(self):
         for log in ("", f"{self.LAST}\nfn i_shape::c: proved\nlogic=proved functions=1\n", "fn i_shape_c::a: proved\n"):
             self.assertEqual((self.printed(log).returncode, self.printed(log).stdout), (1, ""))
@@ -115,7 +151,7 @@ run.end()
         return [int(pid) for pid, state in map(str.split, listed.splitlines()) if state[0] != "Z"]
 
     def test_stops(self):
-        """Ctrl-C ends the gate while rt ci and the wrong bodies run, and nothing is left of it."""
+        """Ctrl-C ends the gate while rt ci and the mutants run, and nothing is left of it."""
         checkout = f"{self.room}/checkout"
         write(f"{checkout}/.ci/parts.py", pages.read(f"{TOP}/.ci/parts.py"))
         for name in (".ci/test_ci.py", "scripts/widths.sh"):
@@ -232,10 +268,10 @@ mine
 """
 
 
-def changed(text, old, new):
-    """The text with each old text replaced, which it has to hold."""
+def changed(text, old, new, count=-1):
+    """The text with each old text replaced, or so many, which it has to hold."""
     assert old in text, old
-    return text.replace(old, new)
+    return text.replace(old, new, count)
 
 
 FAULTS = (
@@ -309,7 +345,7 @@ pub returns-clause-thrice : goal.returns-clause-thrice
 returns-clause-thrice c = omega arith
 """
 SUM = "    number + number"
-# Wrong bodies of these: a name, the function, an old and a new text, and what is said of each.
+# Mutants of these: a name, the function, an old and a new text, and what is said of each.
 EDITS = (
     ("forgets_half", "doubled", SUM, "    number", "refused at doubled: returns-clause-twice"),
     ("names_a_clause", "doubled\nclause: twice", SUM, "    number", "refused at doubled: returns-clause-twice"),
@@ -321,7 +357,7 @@ EDITS = (
     ("names_what_a_call_requires", "quadrupled\nclause: small", "doubled(doubled(number))", "doubled(doubled(number) * 2)", "NOT REFUSED by the clause small of quadrupled, but at "),
     ("changes_a_contract", "doubled", "{ result < 2000 }", "{ result < 2 }", "BAD EDIT: it changes a contract"),
     ("turns_the_callee", "quadrupled", SUM, "    number", "NOT REFUSED at quadrupled, but at doubled"),
-    ("text_is_not_there", "doubled", "number * 2", "number * 3", "BAD EDIT: its old text stands in src/lib.rt 0 times"),
+    ("text_is_not_there", "doubled", "number * 2", "number * 3", "BAD EDIT: its old text occurs in src/lib.rt 0 times"),
     ("does_not_parse", "doubled", SUM, "    (number + number", "BAD EDIT: it did not reach the prover"),
 )
 
@@ -338,22 +374,23 @@ class WrongTest(Case):
         write(f"{self.room}/crates/doubles/src/lib.rt", DOUBLES)
         write(f"{self.room}/crates/doubles/proofs/{LONG}/Answers.antt", ANSWERS)
         write(f"{self.room}/.ci/wrong.py", pages.read(f"{TOP}/.ci/wrong.py"))
-        for name, function, old, new, _ in EDITS:
-            write(f"{self.room}/crates/doubles/wrong/{name}.edit", f"file: src/lib.rt\nrefused: {function}\nold: {old}\nnew: {new}\n")
+        mutants = [f"mutant: {name}\nrefused: {function}\nold: {old}\nnew: {new}\n" for name, function, old, new, _ in EDITS]
+        write(f"{self.room}/crates/doubles/wrong/lib.edit", "\n".join(mutants))
         # What passes by the weaker search isn't noted.
         self.assertEqual(self.run_wrong("--quick", "--only", "lists_its_goals")[0], 0)
         status, said = self.run_wrong()
         for name, *_, what in EDITS:
-            self.assertIn(f"wrong doubles/{name}: {what}", said)
-        self.assertEqual((status, said.splitlines()[-1]), (1, "wrong bodies: 4 passed, 8 failed"))
+            self.assertIn(f"mutant doubles/{name}: {what}", said)
+        self.assertEqual((status, said.splitlines()[-1]), (1, "mutants: 4 passed, 8 failed"))
         # What passed is noted, and tried again where something changes that it was judged by.
-        note = "wrong doubles/forgets_half: refused at doubled by an earlier run: returns-clause-twice"
+        note = "mutant doubles/forgets_half: refused at doubled by an earlier run: returns-clause-twice"
         self.assertIn(note, self.run_wrong("--only", "forgets_half", "--write")[1])
-        self.assertIn("\nclause: twice\ngoals: returns-clause-twice\n", pages.read(f"{self.room}/crates/doubles/wrong/forgets_half.edit"))
+        written = changed("\n".join(mutants), "refused: doubled\nold: ", "refused: doubled\nclause: twice\ngoals: returns-clause-twice\nold: ", 1)
+        self.assertEqual(pages.read(f"{self.room}/crates/doubles/wrong/lib.edit"), written)
         write(f"{self.room}/crates/doubles/src/lib.rt", f"{DOUBLES}// changed\n")
         status, said = self.run_wrong("--only", "forgets_half")
         self.assertNotIn(note, said)
-        self.assertEqual((status, said.splitlines()[-1]), (0, "wrong bodies: 1 passed, 0 failed"))
+        self.assertEqual((status, said.splitlines()[-1]), (0, "mutants: 1 passed, 0 failed"))
 
 
 if __name__ == "__main__":

@@ -1,7 +1,7 @@
 #!/usr/bin/env python3
-"""Tries the wrong bodies in crates/NAME/wrong/: the prover must refuse each at the function that it turns.
+"""Tries the mutants in crates/NAME/wrong/: the prover must refuse each at the function that it changes.
 
-docs/develop/README.md says what an edit is. Edits are put into a copy of their crate, at most one for each function, and checked together, over what earlier
+docs/develop/README.md says what a mutant is. Edits are put into a copy of their crate, at most one for each function, and checked together, over what earlier
 checks kept. An edit passes where the prover leaves a goal of its own function open, and one of these is of the clause that the edit names: the goal
 'returns-clause-NAME', say, or the goal NAME itself, which may be one of a loop or of a call. A fault of a function that it calls, or a text that cannot be read,
 is not enough. Rounds go on until each edit is judged. The libraries below a crate whose edits are tried are proved first, where they aren't.
@@ -31,7 +31,9 @@ sys.dont_write_bytecode = True
 sys.path.insert(0, os.path.dirname(os.path.realpath(shutil.which("rt") or sys.exit("wrong.py: there is no rt on the path"))))
 import rtlib as KIT  # noqa: E402
 
-NOTES = f"{os.environ.get('XDG_CACHE_HOME') or os.path.expanduser('~/.cache')}/raspochre/wrong_bodies"
+NOTES = f"{os.environ.get('XDG_CACHE_HOME') or os.path.expanduser('~/.cache')}/raspochre/mutants"
+# a mutant in the file of its source's mutants
+FORM = re.compile(r"mutant: (.+)\nrefused: (.+)\n(?:clause: (.+)\n)?(?:goals: (.+)\n)?((?:old: .+\nnew:.*\n)+)")
 # what an error says of a name that is no longer there, or of a proof that rests on one that was refused
 GONE = r"has no field|is not in scope|has no `|was not admitted"
 # an error of code that could not be read: it names no goal, or says so
@@ -45,58 +47,55 @@ def read(file):
 
 
 class Edit:
-    """A wrong body, as its file tells it."""
+    """A mutant, as a block of the file of its source's mutants has it."""
 
-    def __init__(self, file):
-        self.file, self.crate, self.name = file, file.split("/")[-3], os.path.basename(file).removesuffix(".edit")
-        self.text, self.pairs, self.goals = read(file), [], None
+    def __init__(self, file, text):
+        self.file, self.text, self.goals = file, text, None
+        self.crate, _, source = file.partition("/crates/")[2].split("/", 2)
+        self.path = f"src/{source.removesuffix('.edit')}.rt"
+        form = FORM.fullmatch(text)
+        self.name, self.function, self.clause, goals, pairs = form.groups("") if form else (text.partition("\n")[0], "", "", "", "")
+        self.open, self.pairs = goals.split(), re.findall("old: (.+)\nnew: ?(.*)\n", pairs)
         # the functions beside whose edits it is not tried, and whether it is tried beside none
         self.apart_from, self.is_alone = set(), False
-        told, words = {}, ""
-        for word, _, text in (line.partition(":") for line in self.text.splitlines() if line):
-            told[word] = text.removeprefix(" ")
-            words += f"{word} "
-            if word == "new":
-                self.pairs.append((told.get("file"), told.get("old"), told["new"]))
-        self.is_well_formed = self.pairs and re.fullmatch("(file |refused |clause |goals |old new )+", words)
-        self.function, self.clause, self.open = told.get("refused"), told.get("clause"), told.get("goals", "").split()
 
     def fault(self, folder):
         """Returns what keeps it from being tried on the crate in this folder, or None."""
-        if not self.function or not self.is_well_formed or not all(path and old for path, old, _ in self.pairs):
-            return "its lines are not 'file:', 'refused:', 'clause:', and then pairs of 'old:' and 'new:'"
-        for path in {path for path, _, _ in self.pairs}:
-            if os.path.normpath(path) != path or not path.startswith("src/") or not os.path.isfile(f"{folder}/{path}"):
-                return f"there is no file {path} of code"
-        return self.edited(folder)[1] or ("it changes a contract" if self.changes_contract(folder) else None)
+        if not self.pairs:
+            return "its lines are not 'mutant:', 'refused:', 'clause:', 'goals:', and then pairs of 'old:' and 'new:'"
+        if not os.path.isfile(f"{folder}/{self.path}"):
+            return f"there is no file {self.path} of code"
+        # behind the first word of a clause, and before the body or the end of the method
+        in_contract = re.compile(r"^ *(?:requires|ensures)\b(?:(?!^ *\{$|;$).)*\Z", re.M | re.S)
+        return self.edited(folder)[1] or ("it changes a contract" if any(map(in_contract.search, self.above(folder))) else None)
 
-    def changes_contract(self, folder):
-        """Whether an old text stands behind the first word of a clause, and before the body or the end of the method."""
-        above = (read(f"{folder}/{path}").partition(old)[0] + old for path, old, _ in self.pairs)
-        return any(re.search(r"^ *(?:requires|ensures)\b(?:(?!^ *\{$|;$).)*\Z", it, re.M | re.S) for it in above)
+    def above(self, folder):
+        """Returns of each old text what comes before its end."""
+        text = read(f"{folder}/{self.path}")
+        return [text.partition(old)[0] + old for old, _ in self.pairs]
 
     def edited(self, folder):
-        """Returns the edited texts by their path, and why there are none where an old text doesn't stand there once."""
-        texts = {}
-        for path, old, new in self.pairs:
-            text = texts.get(path) or read(f"{folder}/{path}")
+        """Returns the edited source, and why there is none where an old text doesn't occur in it once."""
+        text = read(f"{folder}/{self.path}")
+        for old, new in self.pairs:
             if text.count(old) != 1:
-                return None, f"its old text stands in {path} {text.count(old)} times, and not once"
-            texts[path] = text.replace(old, new)
-        return texts, None
+                return None, f"its old text occurs in {self.path} {text.count(old)} times, and not once"
+            text = text.replace(old, new)
+        return text, None
 
     def is_excluded_by(self, goal):
         """Whether the goal is of the clause that the edit names, and not of what a call requires, or the edit names none."""
-        return self.clause in (None, goal) or goal.endswith(f"-clause-{self.clause}") and "-requires-" not in goal
+        return self.clause in ("", goal) or goal.endswith(f"-clause-{self.clause}") and "-requires-" not in goal
 
     def write_goals(self, goals):
         """Writes into its file which goals were open, and, where it names no clause, that of the first at which the function returns, or of the first."""
         at_return = next((it for it in goals if it.startswith("returns")), None)
         self.open, self.clause = goals, self.clause or (at_return.rpartition("-clause-")[2] if at_return else goals[0])
-        bare = re.sub(r"^(clause|goals):.*\n", "", self.text, flags=re.M)
+        before, bare = self.text, re.sub(r"^(clause|goals):.*\n", "", self.text, flags=re.M)
         self.text = re.sub(r"^(refused:.*\n)", rf"\1clause: {self.clause}\ngoals: {' '.join(goals)}\n", bare, count=1, flags=re.M)
+        whole = read(self.file).replace(before, self.text)
         with open(self.file, "w", encoding="utf-8") as out:
-            out.write(self.text)
+            out.write(whole)
 
     def answer(self, room):
         """Answers the goals that it lists and that have no answer in this copy of its crate."""
@@ -115,9 +114,8 @@ class Edit:
                 out.write(uses + answers + "".join(f"\npub {it} : {name}.{it}\n{it} = search rules\n" for it in lacking))
 
     def stays_inside(self, folder):
-        """Whether each old text lies in the function itself, so that it can turn no other. A constant can, where others read it."""
-        for path, old, _ in self.pairs:
-            above = read(f"{folder}/{path}").partition(old)[0] + old
+        """Whether each old text lies in the function itself, so that it can change no other. A constant can, where others read it."""
+        for above in self.above(folder):
             items = re.findall(r'^ *(?:[\w()"]+ )*(fn|ghost|const|static|struct|enum|type|trait|impl|mod|macro_rules!|use)\b ?(\w*)', above, re.M)
             if items[-1:] != [("fn", self.function.rpartition("::")[2])]:
                 return False
@@ -130,19 +128,19 @@ class Found:
     def __init__(self, crate, said):
         # a long message goes on in lines that begin with blanks
         self.lines = re.sub(r"\n +", " ", said).splitlines()
-        # the goals that a search left open are told of before the line of their function, also where an answer of it fails
+        # the goals that a search left open come before the line of their function, also where an answer of it fails
         self.noted, noted = {}, []
         for line in self.lines:
             if at := re.match(r"note: src/\S+: it is not proved that .*? \(`([^`]+)`\)", line):
                 noted.append(at[1])
             elif at := re.match(rf"\w+ {crate}::(\S+): ", line):
                 self.noted[at[1]], noted = noted, []
-        self.told = dict(re.findall(rf"^fn {crate}::(\S+): (.*)$", said, re.M))
+        self.verdicts = dict(re.findall(rf"^fn {crate}::(\S+): (.*)$", said, re.M))
         self.has_ended = bool(re.search(r"^only=\d+ proved=\d+$", said, re.M))
-        self.at_fault = {name for name, what in self.told.items() if self.is_at_fault(name, what)}
+        self.at_fault = {name for name, what in self.verdicts.items() if self.is_at_fault(name, what)}
 
     def is_at_fault(self, function, what):
-        """Whether a goal of the function's own is open. One that calls a function at fault is told of too, but without errors of its own."""
+        """Whether a goal of the function's own is open. A function that calls one at fault has a line too, but no errors of its own."""
         if "it calls" not in what:
             return bool(re.match(r"not proved|no proof", what))
         return "`search` did not prove" in what or any(not re.search(GONE, it) for it in self.errors_of(function))
@@ -158,9 +156,9 @@ class Found:
         named = [it[1] for it in (re.match(r"`([^`]+)`:", it) for it in answered) if it]
         return list(dict.fromkeys([*self.noted.get(function, []), *named]))
 
-    def unread(self, paths):
-        """Returns a line that tells that the code in one of these files could not be read, or None."""
-        return next((line for line in self.lines if (at := re.match(UNREAD, line)) and at[1] in paths), None)
+    def unread(self, path):
+        """Returns a line that says that the code in this file could not be read, or None."""
+        return next((line for line in self.lines if (at := re.match(UNREAD, line)) and at[1] == path), None)
 
     def names_what_is_gone(self, function):
         """Whether the function's proof fails only because it names what the edit took away."""
@@ -176,8 +174,8 @@ def link_or_copy(one, other):
     return shutil.copy2(one, other)
 
 
-def tell(edit, what):
-    print(f"wrong {edit.crate}/{edit.name}: {what}", flush=True)
+def report(edit, what):
+    print(f"mutant {edit.crate}/{edit.name}: {what}", flush=True)
 
 
 def stamp_of(crate):
@@ -192,7 +190,7 @@ def stamp_of(crate):
 
 
 class Notes:
-    """The wrong bodies of one crate that passed on this machine: a file for each, named for the sum of all that it was judged by."""
+    """The mutants of one crate that passed on this machine: a file for each, named for the sum of all that it was judged by."""
 
     def __init__(self, crate):
         self.crate, self.stamp = crate, stamp_of(crate)
@@ -218,13 +216,13 @@ class Notes:
 
 
 class Trial:
-    """The wrong bodies of one crate, tried in rounds on one copy of it."""
+    """The mutants of one crate, tried in rounds on one copy of it."""
 
     def __init__(self, crate, edits, writes, is_quick):
         self.crate, self.left, self.notes, self.writes, self.is_quick, self.passed = crate, edits, Notes(crate), writes, is_quick, []
 
     def sort_out(self, is_anew):
-        """Judges the edits that can't be tried, and those that are noted unless all are tried anew, and tells which of the others are tried alone."""
+        """Judges the edits that can't be tried, and those that are noted unless all are tried anew, and marks which of the others are tried alone."""
         for edit in list(self.left):
             if fault := edit.fault(self.crate.folder):
                 self.judge(edit, f"BAD EDIT: {fault}")
@@ -240,7 +238,7 @@ class Trial:
             while self.left:
                 taken = self.lay_round(room)
                 for edit in [] if taken else list(self.left):
-                    self.judge(edit, "BAD EDIT: its old text no longer stands there once")
+                    self.judge(edit, "BAD EDIT: its old text no longer occurs once")
                 if not taken:
                     break
                 found = self.check(taken, room)
@@ -253,34 +251,33 @@ class Trial:
         self.left.remove(edit)
         with contextlib.suppress(OSError):
             os.remove(self.notes.place(edit))
-        tell(edit, why_not)
+        report(edit, why_not)
 
     def refuse(self, edit, goals, when=""):
         """Takes the edit as refused at these goals."""
         self.left.remove(edit)
         self.passed.append(edit)
         edit.goals = goals
-        tell(edit, f"refused at {edit.function}{when}: {', '.join(goals)}")
+        report(edit, f"refused at {edit.function}{when}: {', '.join(goals)}")
         if self.writes and goals and not (edit.clause and edit.open):
             edit.write_goals(goals)
 
     def lay_round(self, room):
         """Lays a copy of the crate with as many of the edits that are left as can be tried beside one another, and returns those."""
-        # a round keeps what it checked of the wrong bodies, and the right ones would be proved once more beside the next
+        # a round keeps what it checked of the mutants, and the right bodies would be proved once more beside the next
         for part, to in (*((part, part) for part in KIT.PARTS), ("out/incremental", "kept")):
             if os.path.isdir(f"{self.crate.folder}/{part}"):
                 shutil.rmtree(f"{room}/{to}", ignore_errors=True)
                 shutil.copytree(f"{self.crate.folder}/{part}", f"{room}/{to}", copy_function=link_or_copy)
         taken = []
         for edit in self.left:
-            texts, _ = edit.edited(room)
-            if texts and all(self.can_stand_beside(edit, other) for other in taken):
+            text, _ = edit.edited(room)
+            if text and all(self.can_stand_beside(edit, other) for other in taken):
                 taken.append(edit)
                 if self.is_quick:
                     edit.answer(room)
-                for path, text in texts.items():
-                    with open(f"{room}/{path}", "w", encoding="utf-8") as out:
-                        out.write(text)
+                with open(f"{room}/{edit.path}", "w", encoding="utf-8") as out:
+                    out.write(text)
         return taken
 
     def can_stand_beside(self, edit, other):
@@ -296,8 +293,8 @@ class Trial:
 
     def look_at(self, edit, found, was_alone):
         """Judges the edit by what a check found. Where that may be another edit's doing, it is left for a later round."""
-        own, unread = edit.function, found.unread({path for path, _, _ in edit.pairs})
-        is_judged = found.has_ended and not unread and (own in found.at_fault or found.told.get(own) == "proved")
+        own, unread = edit.function, found.unread(edit.path)
+        is_judged = found.has_ended and not unread and (own in found.at_fault or found.verdicts.get(own) == "proved")
         if not is_judged and not was_alone:
             edit.apart_from |= found.at_fault - {own}
             edit.is_alone = not found.has_ended or bool(unread) or not edit.apart_from
@@ -330,7 +327,8 @@ def main():
     root = os.path.dirname(os.path.dirname(os.path.realpath(__file__)))
     os.chdir(root)
     listed = {it.name: it for it in KIT.crates_below(root)}
-    every = [Edit(file) for file in sorted(glob.glob(f"{root}/crates/*/wrong/*.edit"))]
+    files = sorted(glob.glob(f"{root}/crates/*/wrong/**/*.edit", recursive=True))
+    every = [Edit(file, f"{text.rstrip()}\n") for file in files for text in read(file).split("\n\n")]
     chosen = [it for it in every if not asked.only or any(word == it.crate or word in it.name for word in asked.only)]
     chosen = [it for it in chosen if it.crate not in asked.left_out]
     for word in asked.left_out:
@@ -338,10 +336,10 @@ def main():
             parser.error(f"no crate is named {word}")
     for word in asked.only:
         if word not in listed and not any(word in it.name for it in every):
-            parser.error(f"no crate and no wrong body is named {word}")
+            parser.error(f"no crate and no mutant is named {word}")
     for edit in chosen:
         if edit.crate not in listed:
-            tell(edit, "BAD EDIT: crates.txt does not list its crate")
+            report(edit, "BAD EDIT: crates.txt does not list its crate")
     edits = {crate: [it for it in chosen if it.crate == name] for name, crate in listed.items()}
     # its first call sets a signal's handler, which only the main thread may
     KIT.guarded()
@@ -357,8 +355,8 @@ def main():
     # notes that no run has used for sixty days go
     subprocess.run(["find", NOTES, "-type", "f", "-mtime", "+60", "-delete"], stderr=subprocess.DEVNULL, check=False)
     if unnamed := sum(not it.clause for it in chosen):
-        print(f"{unnamed} wrong bodies name no clause: --write adds it")
-    print(f"wrong bodies: {passed} passed, {failed} failed")
+        print(f"{unnamed} mutants name no clause: --write adds it")
+    print(f"mutants: {passed} passed, {failed} failed")
     return failed > 0 or unnamed > 0
 
 
