@@ -16,7 +16,7 @@ esac
 build() { make -s -f "$here/Makefile" "I_SHAPE_C_DIR=$library" "OUT=$1" "${@:2}"; }
 
 compile_fuzz() {
-    "${CC:-cc}" -std=gnu11 -g -O1 "${sanitizers[@]}" -DSQLITE_CORE -Iinclude "-I$shared" "-I$here" "$shared"/{wkb,forms}.c "${@:2}" "$library/libi_shape.a" \
+    "${CC:-cc}" -std=gnu11 -g -O1 "${sanitizers[@]}" -DSQLITE_CORE -Iinclude "-I$shared" "-I$here" "$shared"/{wkb,forms,contacts}.c "${@:2}" "$library/libi_shape.a" \
         -lm -lpthread -o "$1"
 }
 
@@ -28,7 +28,7 @@ test_fuzz() {
 
 # The rule by which coordinates are rounded onto a grid, row by row of its table.
 test_grid() {
-    "${CC:-cc}" -std=gnu11 -O2 -Wall -Wextra -Werror -Iinclude "-I$shared" "$shared"/{wkb,forms,tests/grid}.c "$library/libi_shape.a" -lm -lpthread \
+    "${CC:-cc}" -std=gnu11 -O2 -Wall -Wextra -Werror -Iinclude "-I$shared" "$shared"/{wkb,forms,contacts,tests/grid}.c "$library/libi_shape.a" -lm -lpthread \
         -o "$work/grid" && "$work/grid" bindings/grid.txt
 }
 

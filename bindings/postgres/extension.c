@@ -231,6 +231,38 @@ CALL(pg_i_shape_validity_reason) {
     PG_RETURN_TEXT_P(cstring_to_text(text));
 }
 
+/* The first room is enough where each edge is in contact with two others, so that all pairs of edges are seldom tried twice. */
+static i_shape_contact *contacts_of(const Geometry *geometry, size_t *count) {
+    size_t room = geometry->counts.points;
+    size_t *offsets = MemoryContextAllocHuge(CurrentMemoryContext, (geometry->counts.rings + 1) * sizeof *offsets);
+    i_shape_contact *contacts = MemoryContextAllocHuge(CurrentMemoryContext, room * sizeof *contacts);
+    *count = list_contacts(geometry, let_interrupt, offsets, contacts, room);
+    if (*count > room) {
+        pfree(contacts);
+        contacts = MemoryContextAllocHuge(CurrentMemoryContext, *count * sizeof *contacts);
+        list_contacts(geometry, let_interrupt, offsets, contacts, *count);
+    }
+    pfree(offsets);
+    return contacts;
+}
+
+CALL(pg_i_shape_contact_points) {
+    bytea *wkb = PG_GETARG_BYTEA_PP(0), *answer;
+    Grid grid = grid_of(PG_GETARG_FLOAT8(1));
+    Geometry given = geometry_of(wkb, grid);
+    size_t count;
+    i_shape_contact *contacts = contacts_of(&given, &count);
+    Position *room = MemoryContextAllocHuge(CurrentMemoryContext, 2 * count * sizeof *room);
+    MultiPoint found = find_contact_points(&given, contacts, count, grid, let_interrupt, room);
+    answer = new_bytea(multipoint_size(&found), "geometry");
+    write_multipoint(&found, let_interrupt, VARDATA(answer));
+    pfree(contacts);
+    pfree(room);
+    free_block(&given);
+    PG_FREE_IF_COPY(wkb, 0);
+    PG_RETURN_BYTEA_P(answer);
+}
+
 CALL(pg_i_shape_area_two) {
     bytea *wkb = PG_GETARG_BYTEA_PP(0);
     Geometry given = geometry_of(wkb, grid_of(PG_GETARG_FLOAT8(1)));

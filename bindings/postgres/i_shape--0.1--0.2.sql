@@ -15,6 +15,11 @@ AS 'MODULE_PATHNAME', 'pg_i_shape_validity_reason' LANGUAGE c IMMUTABLE STRICT P
 CREATE FUNCTION i_shape_validity_reason(geom geometry, step float8) RETURNS text
 LANGUAGE sql IMMUTABLE STRICT PARALLEL SAFE COST 500
 RETURN i_shape_wkb_validity_reason(ST_AsEWKB(geom), step);
+CREATE FUNCTION i_shape_wkb_contact_points(wkb bytea, step float8) RETURNS bytea
+AS 'MODULE_PATHNAME', 'pg_i_shape_contact_points' LANGUAGE c IMMUTABLE STRICT PARALLEL SAFE COST 50;
+CREATE FUNCTION i_shape_contact_points(geom geometry, step float8) RETURNS geometry
+LANGUAGE sql IMMUTABLE STRICT PARALLEL SAFE COST 500
+RETURN ST_GeomFromEWKB(i_shape_wkb_contact_points(ST_AsEWKB(geom), step));
 
 -- As at the end of i_shape--0.1.sql, which CREATE EXTENSION runs first: of all that the extension has now.
 SET LOCAL search_path = pg_catalog, pg_temp;

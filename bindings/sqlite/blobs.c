@@ -1,5 +1,6 @@
 #include "blobs.h"
 
+#include <math.h>
 #include <string.h>
 
 _Static_assert(__BYTE_ORDER__ == __ORDER_LITTLE_ENDIAN__, "what is around a WKB is written with the low byte first");
@@ -105,16 +106,16 @@ const char *open_blob(const void *bytes, size_t size, Blob *blob) {
     return NULL;
 }
 
-static size_t head_size(const Blob *given, const Geometry *left) {
+static size_t head_size(const Blob *given, bool is_full) {
     switch (given->form) {
-    case GEOPACKAGE: return left->counts.polygons > 0 ? GP_HEAD + BOX_SIZE : GP_HEAD;
+    case GEOPACKAGE: return is_full ? GP_HEAD + BOX_SIZE : GP_HEAD;
     case SPATIALITE: return SL_HEAD;
     default: return 0;
     }
 }
 
 size_t blob_size(const Blob *given, const Geometry *left) {
-    return head_size(given, left) + wkb_size(left) + (given->form == SPATIALITE);
+    return head_size(given, left->counts.polygons > 0) + wkb_size(left) + (given->form == SPATIALITE);
 }
 
 static void find_box(const Geometry *left, Grid grid, double box[4]) {
@@ -139,23 +140,57 @@ static void write_geopackage(const Blob *given, const double *box, unsigned char
     if (box) memcpy(to + GP_HEAD, box, BOX_SIZE);
 }
 
-static void write_spatialite(const Blob *given, const Geometry *left, const double box[4], unsigned char *to) {
+/* Around a WKB of so many bytes, whose parts are marked. */
+static void write_spatialite(const Blob *given, const double box[4], size_t size, unsigned char *to) {
     const double corners[] = {box[0], box[2], box[1], box[3]};
-    size_t size = wkb_size(left);
     memcpy(to, given->bytes, SL_BOX_AT);
     memcpy(to + SL_BOX_AT, corners, BOX_SIZE);
-    if (left->is_multi) mark_parts(to + SL_HEAD, size, 1, SL_PART);
     to[SL_HEAD] = SL_MARK;
     to[SL_HEAD + size] = SL_END;
 }
 
 void write_blob(const Blob *given, const Geometry *left, Grid grid, Pause pause, unsigned char *to) {
     bool is_full = left->counts.polygons > 0;
+    size_t size = wkb_size(left);
     double box[4];
-    write_wkb(left, grid, pause, to + head_size(given, left));
+    write_wkb(left, grid, pause, to + head_size(given, is_full));
     if (given->form != PLAIN && is_full) find_box(left, grid, box);
     if (given->form == GEOPACKAGE) write_geopackage(given, is_full ? box : NULL, to);
-    if (given->form == SPATIALITE && is_full) write_spatialite(given, left, box, to);
+    if (given->form != SPATIALITE || !is_full) return;
+    if (left->is_multi) mark_parts(to + SL_HEAD, size, 1, SL_PART);
+    write_spatialite(given, box, size, to);
+}
+
+size_t point_blob_size(const Blob *given, const MultiPoint *points) {
+    return head_size(given, points->count > 0) + multipoint_size(points) + (given->form == SPATIALITE);
+}
+
+static void find_point_box(const MultiPoint *points, double box[4]) {
+    box[0] = box[1] = points->points->x;
+    box[2] = box[3] = points->points->y;
+    for (const Position *point = points->points; point < points->points + points->count; point++) {
+        box[0] = fmin(box[0], point->x);
+        box[1] = fmax(box[1], point->x);
+        box[2] = fmin(box[2], point->y);
+        box[3] = fmax(box[3], point->y);
+    }
+}
+
+static void mark_points(unsigned char *wkb, size_t count) {
+    const size_t head = 9, part = 21;
+    for (size_t k = 0; k < count; k++) wkb[head + k * part] = SL_PART;
+}
+
+void write_point_blob(const Blob *given, const MultiPoint *points, Pause pause, unsigned char *to) {
+    bool is_full = points->count > 0;
+    size_t head = head_size(given, is_full);
+    double box[4];
+    write_multipoint(points, pause, to + head);
+    if (given->form != PLAIN && is_full) find_point_box(points, box);
+    if (given->form == GEOPACKAGE) write_geopackage(given, is_full ? box : NULL, to);
+    if (given->form != SPATIALITE || !is_full) return;
+    mark_points(to + head, points->count);
+    write_spatialite(given, box, multipoint_size(points), to);
 }
 
 static bool is_same_polygon(const Polygon *one, const Polygon *other) {
@@ -177,6 +212,6 @@ bool is_unchanged(const Blob *given, const Geometry *read, const Geometry *left,
     if (given->form == PLAIN || given->wkb_size != wkb_size(left)) return false;
     /* Of SpatiaLite's, marks are among the bytes that are written. */
     bool is_as_written = given->form == GEOPACKAGE && given->wkb[0] == 1;
-    if (is_as_written) return memcmp(written + head_size(given, left), given->wkb, given->wkb_size) == 0;
+    if (is_as_written) return memcmp(written + head_size(given, left->counts.polygons > 0), given->wkb, given->wkb_size) == 0;
     return read->is_on_grid && !read->has_minus_zero && are_same_polygons(read, left);
 }

@@ -19,9 +19,12 @@ const char *open_blob(const void *bytes, size_t size, Blob *blob);
 /* Puts the WKB of SpatiaLite's blob into wkb_size bytes, and says why it can't be read, as open_blob does. */
 const char *copy_wkb(Blob *blob, unsigned char *wkb);
 
-/* How long a geometry is in the form of the given blob, and its bytes. SpatiaLite has none without polygons. */
+/* How long a geometry is in the form of the given blob, and its bytes. SpatiaLite has none without points. */
 size_t blob_size(const Blob *given, const Geometry *left);
 void write_blob(const Blob *given, const Geometry *left, Grid grid, Pause pause, unsigned char *to);
+/* The same of points. */
+size_t point_blob_size(const Blob *given, const MultiPoint *points);
+void write_point_blob(const Blob *given, const MultiPoint *points, Pause pause, unsigned char *to);
 /* Whether a GeoPackage's or SpatiaLite's blob, read as a geometry, holds already what is left of it, whose blob has been written, so that what is around it may
  * stay too. */
 bool is_unchanged(const Blob *given, const Geometry *read, const Geometry *left, const unsigned char *written);

@@ -8,7 +8,7 @@
 #include <sqlite3ext.h>
 SQLITE_EXTENSION_INIT1
 
-enum { FLAGS = SQLITE_UTF8 | SQLITE_DETERMINISTIC | SQLITE_INNOCUOUS, MOST_HELD = 4, PAUSES = 64 };
+enum { FLAGS = SQLITE_UTF8 | SQLITE_DETERMINISTIC | SQLITE_INNOCUOUS, MOST_HELD = 7, PAUSES = 64 };
 
 /* ---- a call, which frees what it holds however it ends ---- */
 
@@ -16,7 +16,7 @@ typedef struct {
     sqlite3_context *context;
     sqlite3_stmt *look; /* for an interrupt, each so many PAUSES */
     int pauses, held_count;
-    void *held[MOST_HELD]; /* a WKB, two geometries and an answer, or the WKB of a point, or offsets */
+    void *held[MOST_HELD]; /* a WKB, two geometries and an answer, or the WKB of a point, or offsets; or what points of contacts take */
     jmp_buf end;
 } Call;
 
@@ -258,6 +258,33 @@ static void tell_reason(Call *call, int count, sqlite3_value **values) {
     sqlite3_result_text(call->context, text, -1, SQLITE_TRANSIENT);
 }
 
+/* The first room is enough where each edge is in contact with two others, so that all pairs of edges are seldom tried twice. */
+static const i_shape_contact *contacts_of(Call *call, const Geometry *geometry, size_t *count) {
+    size_t room = geometry->counts.points;
+    size_t *offsets = take(call, (geometry->counts.rings + 1) * sizeof *offsets);
+    i_shape_contact *contacts = take(call, room * sizeof *contacts);
+    *count = list_contacts(geometry, pause_of(call), offsets, contacts, room);
+    if (*count <= room) return contacts;
+    contacts = take(call, *count * sizeof *contacts);
+    list_contacts(geometry, pause_of(call), offsets, contacts, *count);
+    return contacts;
+}
+
+/* In the form of the blob that was given. */
+static void find_points(Call *call, int count, sqlite3_value **values) {
+    (void)count;
+    Given given = given_by(call, values[0], values[1]);
+    size_t contact_count;
+    const i_shape_contact *contacts = contacts_of(call, &given.geometry, &contact_count);
+    Position *room = take(call, 2 * contact_count * sizeof *room);
+    MultiPoint points = find_contact_points(&given.geometry, contacts, contact_count, given.grid, pause_of(call), room);
+    if (given.blob.form == SPATIALITE && points.count == 0) return;
+    points.has_srid = points.has_srid && given.blob.form == PLAIN;
+    size_t size = point_blob_size(&given.blob, &points);
+    write_point_blob(&given.blob, &points, pause_of(call), take(call, size));
+    answer_block(call, size);
+}
+
 static void measure_area(Call *call, int count, sqlite3_value **values) {
     (void)count;
     Given given = given_by(call, values[0], values[1]);
@@ -300,7 +327,7 @@ static const Function functions[] = {
     {"i_shape_simplify", 2, 2, simplify},     {"i_shape_despike", 2, 2, despike},        {"i_shape_canonical", 2, 3, make_canonical},
     {"i_shape_key", 2, 3, make_key},          {"i_shape_digest", 2, 3, make_digest},     {"i_shape_is_clean", 2, 2, test_clean},
     {"i_shape_area_two", 2, 2, measure_area}, {"i_shape_winding", 3, 3, count_windings}, {"i_shape_has_no_spikes", 2, 2, test_no_spikes},
-    {"i_shape_is_valid", 2, 2, test_valid},   {"i_shape_validity_reason", 2, 2, tell_reason},
+    {"i_shape_is_valid", 2, 2, test_valid},   {"i_shape_validity_reason", 2, 2, tell_reason}, {"i_shape_contact_points", 2, 2, find_points},
 };
 
 /* By itself, so that no variable of a function that calls setjmp changes. */

@@ -72,7 +72,7 @@ typedef struct {
     double value;
 } Fault;
 
-enum { WKB_POINT = 1, WKB_LINESTRING = 2, WKB_POLYGON = 3, WKB_MULTIPOLYGON = 6, WKB_CIRCULARSTRING = 8, WKB_CURVE = 13, WKB_TRIANGLE = 17 };
+enum { WKB_POINT = 1, WKB_LINESTRING = 2, WKB_POLYGON = 3, WKB_MULTIPOINT = 4, WKB_MULTIPOLYGON = 6, WKB_CIRCULARSTRING = 8, WKB_CURVE = 13, WKB_TRIANGLE = 17 };
 enum { FLOAT_SIZE = 32, FAULT_SIZE = 256, REASON_SIZE = 384 };
 
 /* A float in the fewest digits that lead back to it. */
@@ -84,8 +84,8 @@ void put_fault(const Fault *fault, const char *wanted, char text[FAULT_SIZE]);
 bool make_grid(double step, Grid *grid);
 /* Whether both coordinates lie within the limit of the grid; then where the point lies on it. */
 bool to_grid(const double xy[2], Grid grid, i_shape_point_i64 *point);
-/* The coordinate of a number of steps. */
-double brought_back(int64_t k, Grid grid);
+/* The coordinate of a number of steps, which need not be whole. */
+double brought_back(double k, Grid grid);
 
 /* The bytes that hold as many points, rings and polygons, and arrays within such a block, aligned as a pointer is. */
 size_t block_size(Counts counts);
@@ -139,5 +139,27 @@ bool find_invalidity(const Geometry *geometry, Pause pause, size_t *offsets, Inv
 void put_reason(const Invalidity *found, Grid grid, char text[REASON_SIZE]);
 /* How often the rings wind about a safe point together. */
 int64_t winding(const Geometry *geometry, i_shape_point_i64 about, Pause pause);
+
+/* A point in the coordinates of a geometry. */
+typedef struct {
+    double x, y;
+} Position;
+
+/* An array of the host holds its points. */
+typedef struct {
+    const Position *points;
+    size_t count;
+    bool has_srid;
+    int32_t srid;
+} MultiPoint;
+
+/* The edges of one polygon that are in contact, each by the place, in all points of the geometry, of the one from which it leads. It writes as many contacts as
+ * fit, and returns how many there are. offsets has room for one more than there are rings. */
+size_t list_contacts(const Geometry *geometry, Pause pause, size_t *offsets, i_shape_contact *out, size_t room);
+/* Where these are, by x and then y, each point once. The array has room for twice as many points as there are contacts. */
+MultiPoint find_contact_points(const Geometry *geometry, const i_shape_contact *contacts, size_t count, Grid grid, Pause pause, Position *room);
+
+size_t multipoint_size(const MultiPoint *of);
+void write_multipoint(const MultiPoint *of, Pause pause, void *to);
 
 #endif

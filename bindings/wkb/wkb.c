@@ -27,8 +27,8 @@ static double steps_of(double x, Grid grid) {
     return rint(grid.steps_to_one != 0 ? x * grid.steps_to_one : x / grid.step);
 }
 
-double brought_back(int64_t k, Grid grid) {
-    return grid.steps_to_one != 0 ? (double)k / grid.steps_to_one : (double)k * grid.step;
+double brought_back(double k, Grid grid) {
+    return grid.steps_to_one != 0 ? k / grid.steps_to_one : k * grid.step;
 }
 
 bool to_grid(const double xy[2], Grid grid, i_shape_point_i64 *point) {
@@ -441,5 +441,20 @@ void write_wkb(const Geometry *geometry, Grid grid, Pause pause, void *to) {
         if (geometry->is_multi) at = put_head(at, WKB_POLYGON);
         at = put_number(at, (uint32_t)polygon->count);
         for (size_t ring = 0; ring < polygon->count; ring++) at = put_ring(at, polygon->rings[ring], grid, pause);
+    }
+}
+
+size_t multipoint_size(const MultiPoint *of) {
+    return HEAD_SIZE + (of->has_srid ? COUNT_SIZE : 0) + COUNT_SIZE + of->count * (HEAD_SIZE + POINT_SIZE);
+}
+
+void write_multipoint(const MultiPoint *of, Pause pause, void *to) {
+    unsigned char *at = put_head(to, WKB_MULTIPOINT | (of->has_srid ? EWKB_SRID : 0));
+    if (of->has_srid) at = put_number(at, (uint32_t)of->srid);
+    at = put_number(at, (uint32_t)of->count);
+    for (size_t k = 0; k < of->count; k++, at += POINT_SIZE) {
+        if (k % PAUSE_POINTS == 0) take_pause(pause);
+        at = put_head(at, WKB_POINT);
+        memcpy(at, of->points + k, POINT_SIZE);
     }
 }
