@@ -105,13 +105,14 @@ static Span size_of(__int128 number) {
     return (Span)(number < 0 ? -number : number);
 }
 
+/* Where an edge passes through the line of another. */
 static Position crossing(Edge one, Edge other, Grid grid) {
     Span part = size_of(distance(one.from, other)), unit = part + size_of(distance(one.to, other));
     return (Position){brought_back(number_between(one.from.x, one.to.x, part, unit), grid),
                       brought_back(number_between(one.from.y, one.to.y, part, unit), grid)};
 }
 
-/* The ends of what two edges share that don't cross: each is an end of an edge. */
+/* The ends of what two edges share, where each is an end of an edge. */
 static size_t shared_ends(Edge one, Edge other, Grid grid, Position out[2]) {
     const i_shape_point_i64 ends[] = {one.from, one.to, other.from, other.to};
     i_shape_point_i64 found[2];
@@ -125,9 +126,9 @@ static size_t shared_ends(Edge one, Edge other, Grid grid, Position out[2]) {
     return count;
 }
 
+/* Where the one passes through the line of the other, they share that point alone, which may be an end of the other. */
 static size_t points_of_contact(Edge one, Edge other, Grid grid, Position out[2]) {
-    bool is_crossing = has_ends_on_both_sides(one, other) && has_ends_on_both_sides(other, one);
-    if (!is_crossing) return shared_ends(one, other, grid, out);
+    if (!has_ends_on_both_sides(one, other)) return shared_ends(one, other, grid, out);
     *out = crossing(one, other, grid);
     return 1;
 }

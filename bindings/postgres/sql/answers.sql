@@ -44,7 +44,7 @@ SELECT name, ST_AsEWKT(got) FROM (VALUES
 SELECT name FROM (VALUES
     ('simplify', i_shape_simplify(NULL, 1)::text), ('step', i_shape_simplify('POLYGON((0 0,4 0,4 4,0 0))', NULL)::text), ('key', i_shape_key(NULL, 1)::text),
     ('oriented', i_shape_key('POLYGON((0 0,4 0,4 4,0 0))', 1, NULL)::text), ('winding', i_shape_winding('POLYGON((0 0,4 0,4 4,0 0))', NULL, 1)::text),
-    ('an empty point', i_shape_winding('POLYGON((0 0,4 0,4 4,0 0))', 'POINT EMPTY', 1)::text)
+    ('an empty point', i_shape_winding('POLYGON((0 0,4 0,4 4,0 0))', 'POINT EMPTY', 1)::text), ('contact points', i_shape_contact_points(NULL, 1)::text)
 ) AS row(name, got) WHERE got IS NOT NULL;
 
 \echo measures: what answers something else
@@ -102,13 +102,37 @@ SELECT name, got FROM (VALUES
     ('a ring without points', i_shape_wkb_validity_reason('\x01030000000100000000000000', 1), 'polygon 1, ring 1: it has fewer than three points, or only equal ones')
 ) AS row(name, got, wanted) WHERE got IS DISTINCT FROM wanted;
 
+\echo where edges meet: what answers something else
+SELECT name, ST_AsEWKT(got) FROM (VALUES
+    ('a crossing', i_shape_contact_points('SRID=4326;POLYGON((0 0,4.5 4.5,4.5 0,0 4.5,0 0))', 0.5), 'SRID=4326;MULTIPOINT(2.25 2.25)'::geometry),
+    ('a crossing at thirds', i_shape_contact_points('POLYGON((0 0,3 1,3 0,0 2,0 0))', 1), 'MULTIPOINT(2 0.6666666666666666)'),
+    ('a spike', i_shape_contact_points('POLYGON((0 0,4 0,4 4,4 9,4 4,0 4,0 0))', 1), 'MULTIPOINT(4 4,4 9)'),
+    ('a repeated point', i_shape_contact_points('POLYGON((0 0,4 0,4 0,4 4,0 0))', 1), 'MULTIPOINT(4 0)'),
+    ('a hole that touches', i_shape_contact_points('POLYGON((0 0,4 0,4 4,0 4,0 0),(0 1,1 1,1 2,0 1))', 1), 'MULTIPOINT(0 1)'),
+    ('a hole along an edge', i_shape_contact_points('POLYGON((0 0,9 0,9 9,0 9,0 0),(2 0,5 0,5 3,2 3,2 0))', 1), 'MULTIPOINT(2 0,5 0)'),
+    ('several', i_shape_contact_points('MULTIPOLYGON(((0 0,1 0,0 1,0 0)),((6 6,8 8,8 6,6 8,6 6)),((2 2,2 4,4 2,4 4,2 2)))', 1), 'MULTIPOINT(3 3,7 7)'),
+    ('off the grid', i_shape_contact_points('POLYGON((0 0,4.4 4.4,4.4 0,0 4.4,0 0))', 1), 'MULTIPOINT(2 2)'),
+    ('polygons that overlap', i_shape_contact_points('SRID=7;MULTIPOLYGON(((0 0,4 0,4 4,0 0)),((0 0,4 0,4 4,0 0)))', 1), 'SRID=7;MULTIPOINT EMPTY'),
+    ('a hole outside', i_shape_contact_points('POLYGON((0 0,4 0,4 4,0 0),(6 1,6 2,7 1,6 1))', 1), 'MULTIPOINT EMPTY'),
+    ('EMPTY', i_shape_contact_points('SRID=4326;POLYGON EMPTY', 1), 'SRID=4326;MULTIPOINT EMPTY')
+) AS row(name, got, wanted) WHERE ST_AsEWKB(got) IS DISTINCT FROM ST_AsEWKB(wanted);
+\echo a star, each of whose edges crosses eight: how many points, and whether each is where PostGIS has one
+WITH star AS (
+    SELECT ST_MakePolygon(ST_MakeLine(array_agg(ST_Point(round(1000 * cosd(k * 5 * 360 / 11.0)), round(1000 * sind(k * 5 * 360 / 11.0))) ORDER BY k))) AS geom
+    FROM generate_series(0, 11) AS k
+), edge AS (SELECT path, its.geom FROM star, ST_DumpSegments(star.geom) AS its), crossing AS (
+    SELECT ST_Intersection(one.geom, other.geom) AS point FROM edge AS one JOIN edge AS other ON one.path < other.path WHERE ST_Crosses(one.geom, other.geom)
+)
+SELECT count(*), bool_and(EXISTS (SELECT FROM crossing WHERE ST_Distance(point, its.geom) < 1e-9)), (SELECT count(*) FROM crossing)
+FROM star, ST_Dump(i_shape_contact_points(star.geom, 1)) AS its;
+
 \echo over bytes: what differs from the call over geometry, of ISO and of the other byte order
 SELECT i_shape_wkb_simplify(wkb, 1) = ST_AsEWKB(i_shape_simplify(geom, 1)), i_shape_wkb_despike(wkb, 1) = ST_AsEWKB(i_shape_despike(geom, 1)),
     i_shape_wkb_canonical(wkb, 1) = ST_AsEWKB(i_shape_canonical(geom, 1)), i_shape_wkb_key(wkb, 1) = i_shape_key(geom, 1),
     i_shape_wkb_digest(wkb, 1) = i_shape_digest(geom, 1), i_shape_digest(geom, 1) = sha256(i_shape_key(geom, 1)),
     i_shape_wkb_area_two(wkb, 1) = i_shape_area_two(geom, 1), i_shape_wkb_is_clean(wkb, 1) = i_shape_is_clean(geom, 1),
     i_shape_wkb_has_no_spikes(wkb, 1) = i_shape_has_no_spikes(geom, 1), i_shape_wkb_is_valid(wkb, 1) = i_shape_is_valid(geom, 1),
-    i_shape_is_valid(geom, 1) = (i_shape_validity_reason(geom, 1) IS NULL)
+    i_shape_is_valid(geom, 1) = (i_shape_validity_reason(geom, 1) IS NULL), i_shape_wkb_contact_points(wkb, 1) = ST_AsEWKB(i_shape_contact_points(geom, 1))
 FROM (VALUES ('SRID=4326;POLYGON((0 0,9 0,9 9,0 9,0 0),(1 1,1 2,2 2,1 1))'::geometry), ('MULTIPOLYGON(((0 0,2 0,4 0,4 4,0 0)),((8 8,9 8,9 9,8 8)))')) AS of(geom),
     LATERAL (VALUES (ST_AsEWKB(geom, 'NDR')), (ST_AsEWKB(geom, 'XDR'))) AS row(wkb);
 SELECT i_shape_wkb_key(ST_AsBinary(geom, 'XDR'), 1) = i_shape_key(geom, 1) FROM (VALUES ('POLYGON((0 0,4 0,4 4,0 0))'::geometry)) AS of(geom);

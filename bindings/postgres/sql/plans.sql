@@ -10,14 +10,14 @@ CREATE FUNCTION plan_of(query text) RETURNS SETOF text LANGUAGE plpgsql AS $$ BE
 CREATE TABLE many AS SELECT ST_MakeEnvelope(x, 0, x + 1, 1) AS geom FROM generate_series(1, 1000) AS x;
 SELECT call, (SELECT string_agg(name[1], ' ' ORDER BY name[1] COLLATE "C") FROM plan_of('SELECT ' || call || ' FROM many') AS line, regexp_matches(line, '\m(i_shape_\w+|sha256)\(', 'g') AS name)
 FROM unnest(ARRAY['i_shape_simplify(geom, 1)', 'i_shape_despike(geom, 1)', 'i_shape_canonical(geom, 1)', 'i_shape_key(geom, 1)', 'i_shape_digest(geom, 1)', 'i_shape_is_clean(geom, 1)', 'i_shape_has_no_spikes(geom, 1)',
-    'i_shape_is_valid(geom, 1)', 'i_shape_validity_reason(geom, 1)', 'i_shape_area_two(geom, 1)', 'i_shape_winding(geom, ST_PointOnSurface(geom), 1)', 'i_shape_wkb_digest(geom::bytea, 1)']) WITH ORDINALITY AS of(call, at) ORDER BY at;
+    'i_shape_is_valid(geom, 1)', 'i_shape_validity_reason(geom, 1)', 'i_shape_contact_points(geom, 1)', 'i_shape_area_two(geom, 1)', 'i_shape_winding(geom, ST_PointOnSurface(geom), 1)', 'i_shape_wkb_digest(geom::bytea, 1)']) WITH ORDINALITY AS of(call, at) ORDER BY at;
 
 \echo each runs in workers: how many calls do
 SET min_parallel_table_scan_size = 0;
 SET parallel_setup_cost = 0;
 SET parallel_tuple_cost = 0;
 SELECT count(*) FROM unnest(ARRAY['i_shape_simplify(geom, 1)::text', 'i_shape_despike(geom, 1)::text', 'i_shape_canonical(geom, 1)::text', 'i_shape_key(geom, 1)::text',
-    'i_shape_digest(geom, 1)::text', 'i_shape_is_clean(geom, 1)::text', 'i_shape_has_no_spikes(geom, 1)::text', 'i_shape_is_valid(geom, 1)::text', 'i_shape_validity_reason(geom, 1)', 'i_shape_area_two(geom, 1)::text', 'i_shape_winding(geom, ST_PointOnSurface(geom), 1)::text']) AS call
+    'i_shape_digest(geom, 1)::text', 'i_shape_is_clean(geom, 1)::text', 'i_shape_has_no_spikes(geom, 1)::text', 'i_shape_is_valid(geom, 1)::text', 'i_shape_validity_reason(geom, 1)', 'i_shape_contact_points(geom, 1)::text', 'i_shape_area_two(geom, 1)::text', 'i_shape_winding(geom, ST_PointOnSurface(geom), 1)::text']) AS call
 WHERE EXISTS (SELECT FROM plan_of('SELECT max(' || call || ') FROM many') AS line WHERE line ~ 'Partial Aggregate')
     AND EXISTS (SELECT FROM plan_of('SELECT max(' || call || ') FROM many') AS line WHERE line ~ 'Gather');
 SELECT count(DISTINCT i_shape_digest(geom, 1)) FROM many;

@@ -31,6 +31,9 @@ WITH of(geom) AS (VALUES ('MULTIPOLYGON(((0 0,4 0,9 0,9 9,0 9,0 0),(1 1,1 2,1 3,
 SELECT name, growths >= CASE WHEN name = 'i_shape_despike' THEN 0 ELSE 3 END, reported = growths, blocks FROM calls, LATERAL failed(call);
 SELECT growths > 0, reported = growths, blocks FROM failed($$ i_shape_despike('MULTIPOLYGON(((0 0,4 0,4 4,4 9,4 4,0 0)),((9 9,12 9,12 12,12 15,12 12,9 9)))', 1) $$);
 SELECT growths >= 2, reported = growths, blocks FROM failed($$ i_shape_is_valid('MULTIPOLYGON(((0 0,4 0,4 4,0 0)),((9 9,12 9,12 12,9 9)))', 1) $$);
+\echo contact points are the same where no memory is given: another point divides by zero
+SELECT growths > 0, reported, blocks FROM failed($$ 1 / ST_Equals('POINT(2 2)', i_shape_contact_points('POLYGON((0 0,4 4,4 0,0 4,-1 4,-2 4,-3 4,-4 4,-5 4,-6 4,-7 4,-8 4,
+    -8 0,-7 0,-6 0,-5 0,-4 0,-3 0,-2 0,-1 0,0 0))', 1))::int $$);
 \echo other measures and tests take none
 SELECT growths FROM unnest(ARRAY['i_shape_is_clean(%L, 1)', 'i_shape_has_no_spikes(%L, 1)', 'i_shape_area_two(%L, 1)', 'i_shape_winding(%L, ''POINT(1 1)'', 1)']) AS call,
     LATERAL failed(format(call, 'POLYGON((0 0,4 0,9 0,9 9,0 9,0 0))'));

@@ -34,12 +34,12 @@ static void set_memory(void) {
     must(sqlite3_config(SQLITE_CONFIG_MALLOC, &tried) == SQLITE_OK && sqlite3_config(SQLITE_CONFIG_LOOKASIDE, 0, 0) == SQLITE_OK, "no memory of its own");
 }
 
-enum { SIMPLIFY, DESPIKE, CANONICAL, KEY, DIGEST, IS_CLEAN, HAS_NO_SPIKES, IS_VALID, REASON, AREA_TWO, WINDING, SIDES, CALLS };
+enum { SIMPLIFY, DESPIKE, CANONICAL, KEY, DIGEST, IS_CLEAN, HAS_NO_SPIKES, IS_VALID, REASON, CONTACT_POINTS, AREA_TWO, WINDING, SIDES, CALLS };
 static const char *const words[CALLS] = {
     "SELECT i_shape_simplify(?1, ?2)",    "SELECT i_shape_despike(?1, ?2)",  "SELECT i_shape_canonical(?1, ?2, ?3)",
     "SELECT i_shape_key(?1, ?2, ?3)",     "SELECT i_shape_digest(?1, ?2, ?3)", "SELECT i_shape_is_clean(?1, ?2)",
     "SELECT i_shape_has_no_spikes(?1, ?2)", "SELECT i_shape_is_valid(?1, ?2)", "SELECT i_shape_validity_reason(?1, ?2)",
-    "SELECT i_shape_area_two(?1, ?2)",    "SELECT i_shape_winding(?1, ?4, ?2)",
+    "SELECT i_shape_contact_points(?1, ?2)", "SELECT i_shape_area_two(?1, ?2)", "SELECT i_shape_winding(?1, ?4, ?2)",
     "SELECT ST_MinX(?1), ST_MaxX(?1), ST_MinY(?1), ST_MaxY(?1), ST_IsEmpty(?1)"};
 static sqlite3 *database;
 static sqlite3_stmt *calls[CALLS];

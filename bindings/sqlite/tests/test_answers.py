@@ -7,7 +7,8 @@ import unittest
 from shapes import BOXES, CLEAN, CLEAN_SEVERAL, FORMS, MODULE, SEVERAL, SQUARE, connect, empty_geopackage, geopackage, spatialite, wkb
 
 KEYS = os.path.join(os.path.dirname(__file__), "../../keys.txt")
-NAMES = [f"i_shape_{name}" for name in ("simplify", "despike", "canonical", "key", "digest", "is_clean", "has_no_spikes", "is_valid", "validity_reason", "area_two", "winding", "version")]
+NAMES = [f"i_shape_{name}" for name in ("simplify", "despike", "canonical", "key", "digest", "is_clean", "has_no_spikes", "is_valid", "validity_reason", "contact_points", "area_two", "winding",
+                                         "version")]
 CLEANED = [
     ("simplify", SQUARE, 1, CLEAN),
     ("simplify", "POLYGON((0 0,0 0,4 0,4 4,0 0))", 1, "POLYGON((0 0,4 0,4 4,0 0))"),
@@ -162,7 +163,7 @@ class AnswersTest(unittest.TestCase):
 
     def test_null(self):
         blob = wkb(CLEAN)
-        for name in ("simplify", "despike", "canonical", "key", "digest", "is_clean", "is_valid", "validity_reason", "area_two"):
+        for name in ("simplify", "despike", "canonical", "key", "digest", "is_clean", "is_valid", "validity_reason", "contact_points", "area_two"):
             self.assertEqual([self.ask(f"{name}(?, ?)", *values) for values in ((None, 1), (blob, None), (None, None), (None, "x"), ("x", None))], [None] * 5)
         for name in ("canonical", "key", "digest"):
             self.assertIsNone(self.ask(f"{name}(?, 1, NULL)", blob))

@@ -54,7 +54,7 @@ STEPS = [(0, f"step is 0, {A_STEP}"), (0.0, f"step is 0, {A_STEP}"), (-1, f"step
 COORDINATES = [("562949953421312 0", 1, f"{FAR} 562949953421312, 2^49 steps or more from 0"), ("1.7e308 0", 1e308, f"{FAR} 1.7e+308, which rounds to no float"),
                ("NaN 0", 1, f"{FAR} NaN, which isn't finite"), ("4 -Infinity", 1, "polygon 1, ring 1, point 2: y is -Infinity, which isn't finite"),
                ("0 1234567.1234567891", 1e-300, "polygon 1, ring 1, point 2: y is 1234567.1234567892, 2^49 steps or more from 0")]
-NAMES = ("simplify", "despike", "canonical", "key", "digest", "is_clean", "has_no_spikes", "is_valid", "validity_reason", "area_two")
+NAMES = ("simplify", "despike", "canonical", "key", "digest", "is_clean", "has_no_spikes", "is_valid", "validity_reason", "contact_points", "area_two")
 
 
 class ErrorsTest(unittest.TestCase):

@@ -139,6 +139,40 @@ static void check_invalidity(const Geometry *given, Grid grid) {
     free(faults);
 }
 
+static void must_ascend(const MultiPoint *found) {
+    for (size_t k = 1; k < found->count; k++) {
+        Position before = found->points[k - 1], point = found->points[k];
+        must(before.x < point.x || (before.x == point.x && before.y < point.y), "points of contacts don't ascend");
+    }
+}
+
+/* No more contacts are written than there is room for; and there are some where that is the fault, and none where there is no fault. */
+static void check_contacts(const Geometry *given, Grid grid) {
+    size_t *offsets = block_of((given->counts.rings + 1) * sizeof *offsets);
+    i_shape_contact *none = block_of(0);
+    Invalidity fault;
+    must(find_invalidity(given, no_pause, offsets, &fault), "no memory");
+    size_t count = list_contacts(given, no_pause, offsets, none, 0), half = count / 2;
+    if (fault.kind == I_SHAPE_VALID) must(count == 0, "a valid geometry has contacts");
+    if (fault.kind == I_SHAPE_CONTACT) must(count > 0, "a geometry with a contact has none");
+    i_shape_contact *some = block_of(half * sizeof *some), *all = block_of(count * sizeof *all);
+    must(list_contacts(given, no_pause, offsets, some, half) == count, "another count where there is less room");
+    must(list_contacts(given, no_pause, offsets, all, count) == count, "another count where there is room");
+    must(memcmp(some, all, half * sizeof *some) == 0, "other contacts where there is less room");
+    Position *room = block_of(2 * count * sizeof *room);
+    MultiPoint found = find_contact_points(given, all, count, grid, no_pause, room);
+    must((found.count > 0) == (count > 0), "contacts without a point");
+    must_ascend(&found);
+    void *wkb = block_of(multipoint_size(&found));
+    write_multipoint(&found, no_pause, wkb);
+    free(offsets);
+    free(none);
+    free(some);
+    free(all);
+    free(room);
+    free(wkb);
+}
+
 static FaultKind check_block(Block wkb) {
     Grid grid;
     Geometry given;
@@ -152,6 +186,7 @@ static FaultKind check_block(Block wkb) {
     check_written(&left, grid);
     check_key(&given, &left, below(2));
     check_invalidity(&given, grid);
+    check_contacts(&given, grid);
     area_two(&given, no_pause);
     winding(&given, (i_shape_point_i64){1, 1}, no_pause);
     free(given.points);
@@ -208,6 +243,23 @@ static void must_have_paused(size_t least) {
     pauses = 0;
 }
 
+/* Within as many contacts as four pauses, all of one edge with itself, and as many points. */
+static void check_pauses_of_contacts(const Geometry *given, Grid grid) {
+    const size_t count = 4 * PAUSE_POINTS;
+    i_shape_contact *contacts = calloc(count, sizeof *contacts);
+    Position *points = calloc(2 * count, sizeof *points);
+    MultiPoint found = find_contact_points(given, contacts, count, grid, count_pause, points);
+    must(found.count == 2, "an edge has two ends");
+    must_have_paused(4);
+    found.count = count;
+    void *wkb = block_of(multipoint_size(&found));
+    write_multipoint(&found, count_pause, wkb);
+    must_have_paused(4);
+    free(contacts);
+    free(points);
+    free(wkb);
+}
+
 /* Within a ring as long as four pauses, and after it. */
 static void check_pauses(void) {
     Counts counts = {4 * PAUSE_POINTS, 1, 1};
@@ -242,6 +294,7 @@ static void check_pauses(void) {
     Invalidity found;
     must(find_invalidity(&form, count_pause, offsets, &found), "no memory");
     must_have_paused(1);
+    check_pauses_of_contacts(&form, grid);
     free(given.points);
     free(again.points);
     free(form.points);
