@@ -8,30 +8,41 @@ typedef unsigned __int128 Span;
 
 /* ---- which edges are in contact ---- */
 
-/* Offsets that begin at 0 aren't copied, and what was read is safe: the library returns no code. */
-static size_t contacts_of_polygon(const Polygon *polygon, size_t *offsets, i_shape_contact *out, size_t room) {
-    const i_shape_point_i64 *points = polygon->rings->points;
-    size_t count = 0, first[2];
+/* Where the rings of a polygon begin among its points, of which it returns the number. */
+static size_t put_offsets(const Polygon *polygon, size_t *offsets) {
+    size_t count = 0;
     for (size_t ring = 0; ring < polygon->count; ring++) {
         offsets[ring] = count;
         count += polygon->rings[ring].count;
     }
     offsets[polygon->count] = count;
-    /* This takes less time than to try all pairs, where there is none. */
-    if (i_shape_first_contact_of_rings_i64(points, count, offsets, polygon->count + 1, first, 2) != 1) return 0;
+    return count;
+}
+
+/* By places among the points of the polygon. Offsets that begin at 0 aren't copied, and what was read is safe: the library returns no code. */
+static size_t contacts_of_polygon(const Polygon *polygon, size_t *offsets, i_shape_contact *out, size_t room) {
+    const i_shape_point_i64 *points = polygon->rings->points;
+    size_t count = put_offsets(polygon, offsets), first[2];
+    /* Where there is none, this takes less time than to try all pairs. */
+    if (i_shape_first_contact_of_rings_i64(points, count, offsets, polygon->count + 1, first, 2) == 0) return 0;
     return (size_t)i_shape_contacts_of_rings_i64(points, count, offsets, polygon->count + 1, out, room);
 }
 
+static void move_places(i_shape_contact *contacts, size_t count, size_t by) {
+    for (size_t k = 0; k < count; k++) {
+        contacts[k].first += by;
+        contacts[k].second += by;
+    }
+}
+
 size_t list_contacts(const Geometry *geometry, Pause pause, size_t *offsets, i_shape_contact *out, size_t room) {
-    size_t count = 0;
+    size_t count = 0, written = 0;
     for (const Polygon *polygon = geometry->polygons; polygon < geometry->polygons + geometry->counts.polygons; polygon++) {
-        size_t before = count < room ? count : room, base = (size_t)(polygon->rings->points - geometry->points);
         take_pause(pause);
-        count += contacts_of_polygon(polygon, offsets, out + before, room - before);
-        for (size_t k = before; k < count && k < room; k++) {
-            out[k].first += base;
-            out[k].second += base;
-        }
+        size_t its = contacts_of_polygon(polygon, offsets, out + written, room - written), fit = its < room - written ? its : room - written;
+        move_places(out + written, fit, (size_t)(polygon->rings->points - geometry->points));
+        count += its;
+        written += fit;
     }
     return count;
 }

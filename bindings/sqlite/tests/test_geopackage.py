@@ -124,6 +124,9 @@ class GdalTest(FolderCase):
         told = run("ogrinfo", "-q", self.given, "-sql", words, OGR_SQLITE_LOAD_EXTENSIONS=MODULE)
         self.assertRegex(told, r"cells \(Integer(64)?\) = 50")
         self.assertIn("POLYGON ((0 0,0.2 0,0.5 0,0.5 0.5,0 0.5,0 0))", told.replace(".0", ""))
+        words = "SELECT i_shape_contact_points(geom, 0.1) AS geom FROM parcels WHERE fid = 1"
+        told = run("ogrinfo", "-q", self.given, "-sql", words, OGR_SQLITE_LOAD_EXTENSIONS=MODULE)
+        self.assertRegex(told, r"MULTIPOINT \(\(?0\.5 0\.5\)?,\(?0\.5 0\.9\)?\)")
 
 
 def with_spatialite():
@@ -153,6 +156,8 @@ class SpatiaLiteTest(unittest.TestCase):
             self.assertEqual(ask("ST_AsText(?1), ST_SRID(?1), ST_IsValid(?1)", left), ask("ST_AsText(GeomFromText(?)), 4326, 1", wanted))
             self.assertEqual(ask("i_shape_digest(?, 1)", blob), ask("i_shape_digest(?, 1)", bare))
         self.assertEqual(ask("i_shape_winding(GeomFromText(?, 7), MakePoint(1, 1, 7), 1)", CLEAN), (1,))
+        crossed, points = "POLYGON((0 0,4 4,4 0,0 4,0 0),(0 1,0 2,-1 2,0 1))", "MULTIPOINT(0 1,0 2,2 2)"
+        self.assertEqual(ask("i_shape_contact_points(GeomFromText(?, 4326), 1)", crossed), ask("GeomFromText(?, 4326)", points))
         self.assertEqual(ask("i_shape_simplify(AsGPB(GeomFromText(?, 7)), 1)", SQUARE), (geopackage(CLEAN, 7),))
         for words, wanted in [("CompressGeometry(GeomFromText('POLYGON((0 0,4 0,4 4,0 0))'))", "a compressed geometry"), ("MakePoint(1, 2)", "not a Point"),
                               ("GeomFromText('POLYGONZ((0 0 1,4 0 1,4 4 1,0 0 1))')", "has Z or M")]:
