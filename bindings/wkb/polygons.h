@@ -72,7 +72,8 @@ typedef struct {
     double value;
 } Fault;
 
-enum { WKB_POINT = 1, WKB_LINESTRING = 2, WKB_POLYGON = 3, WKB_MULTIPOINT = 4, WKB_MULTIPOLYGON = 6, WKB_CIRCULARSTRING = 8, WKB_CURVE = 13, WKB_TRIANGLE = 17 };
+enum { WKB_POINT = 1, WKB_LINESTRING = 2, WKB_POLYGON = 3, WKB_MULTIPOINT = 4, WKB_MULTIPOLYGON = 6 };
+enum { WKB_CIRCULARSTRING = 8, WKB_CURVE = 13, WKB_TRIANGLE = 17 };
 enum { FLOAT_SIZE = 32, FAULT_SIZE = 256, REASON_SIZE = 384 };
 
 /* A float in the fewest digits that lead back to it. */
