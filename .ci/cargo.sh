@@ -91,7 +91,7 @@ test_wrong_call() {
         int8_t __wrap_$1(const i_shape_point_i32 *points, size_t count) { return (int8_t)(__real_$1(points, count) ^ (count == 7)); }"
     echo "$wrong" | "${CC:-cc}" -Iinclude -c -x c - -o "$work/wrong.o"
     compare_hashes "$library/libi_shape.a" "${CC:-cc}" "-Wl,--wrap=$1" "$work/wrong.o" > "$work/log"
-    [ $? = 1 ] && grep -q "^failed: [0-9a-f]* $1: " "$work/log" && grep -qx '119 passed, 1 failed' "$work/log" || { cat "$work/log" && false; }
+    [ $? = 1 ] && grep -q "^failed: [0-9a-f]* $1: " "$work/log" && grep -qx '122 passed, 1 failed' "$work/log" || { cat "$work/log" && false; }
     count $? "the recorded hashes: wrong answers of $1"
 }
 

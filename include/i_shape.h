@@ -34,7 +34,7 @@ uint32_t i_shape_version(void);
  * memory. */
 enum {
     I_SHAPE_UNSAFE = -1,      /* a point that the call reads isn't safe */
-    I_SHAPE_BAD_OFFSETS = -2, /* the offsets don't divide the points, or there is no such fill rule */
+    I_SHAPE_BAD_OFFSETS = -2, /* the offsets don't divide the points, there is no such fill rule, or pairs of edges lack a point */
     I_SHAPE_NO_MEMORY = -3,   /* an allocation failed */
     I_SHAPE_NO_ROOM = -4,     /* an array of the result is too short */
     I_SHAPE_UNFIT = I_SHAPE_BAD_OFFSETS /* the old name, which was also the code of too little room; the next version lacks it */
@@ -237,6 +237,20 @@ ptrdiff_t i_shape_contacts_i32(const i_shape_point_i32 *points, size_t count, i_
  * I_SHAPE_NO_ROOM. */
 ptrdiff_t i_shape_contacts_of_rings_i32(const i_shape_point_i32 *points, size_t count, const size_t *offsets, size_t offset_count, i_shape_contact *out, size_t room);
 
+/* How two edges meet. An edge includes its ends, and may be a single point. */
+enum {
+    I_SHAPE_NO_CONTACT = 0, /* they share no point */
+    I_SHAPE_CROSSING = 1,   /* the ends of each lie on both sides of the line of the other, none on it */
+    I_SHAPE_TOUCH = 2,      /* they share one point, and don't cross: so does an edge with the one that follows it */
+    I_SHAPE_OVERLAP = 3     /* they share more than one point */
+};
+
+/* How the edges of each of many pairs meet, a byte each, into out. edges has four points for each pair: the ends of the
+ * first edge, and those of the second. It returns 0. I_SHAPE_BAD_OFFSETS: count isn't a multiple of 4. I_SHAPE_NO_ROOM:
+ * room is below count / 4. I_SHAPE_UNSAFE: a point isn't safe. After a code, and behind count / 4 bytes, out is as it was.
+ * It takes no memory. */
+int32_t i_shape_kinds_of_contacts_i32(const i_shape_point_i32 *edges, size_t count, uint8_t *out, size_t room);
+
 /* Validity of many polygons, divided as for i_shape_simplify_shapes_i32. A polygon is valid if each contour has at least
  * three points, not all equal, no two edges are in contact, and each vertex of a hole lies inside the outer contour and
  * inside no other hole: about it, the winding number of the outer contour isn't 0, and that of each other hole is 0.
@@ -318,6 +332,7 @@ int32_t i_shape_first_contact_i16(const i_shape_point_i16 *points, size_t count,
 int32_t i_shape_first_contact_of_rings_i16(const i_shape_point_i16 *points, size_t count, const size_t *offsets, size_t offset_count, size_t *out, size_t room);
 ptrdiff_t i_shape_contacts_i16(const i_shape_point_i16 *points, size_t count, i_shape_contact *out, size_t room);
 ptrdiff_t i_shape_contacts_of_rings_i16(const i_shape_point_i16 *points, size_t count, const size_t *offsets, size_t offset_count, i_shape_contact *out, size_t room);
+int32_t i_shape_kinds_of_contacts_i16(const i_shape_point_i16 *edges, size_t count, uint8_t *out, size_t room);
 int32_t i_shape_validity_shapes_i16(const i_shape_point_i16 *points, size_t count, const size_t *contours, size_t contour_offset_count, const size_t *shapes, size_t shape_offset_count, i_shape_fault *out, size_t room);
 bool i_shape_area_two_i16(const i_shape_point_i16 *points, size_t count, int32_t *area);
 int32_t i_shape_is_simple_contours_i16(const i_shape_point_i16 *points, size_t count, const size_t *offsets, size_t offset_count, uint8_t *out, size_t room);
@@ -359,6 +374,7 @@ int32_t i_shape_first_contact_i64(const i_shape_point_i64 *points, size_t count,
 int32_t i_shape_first_contact_of_rings_i64(const i_shape_point_i64 *points, size_t count, const size_t *offsets, size_t offset_count, size_t *out, size_t room);
 ptrdiff_t i_shape_contacts_i64(const i_shape_point_i64 *points, size_t count, i_shape_contact *out, size_t room);
 ptrdiff_t i_shape_contacts_of_rings_i64(const i_shape_point_i64 *points, size_t count, const size_t *offsets, size_t offset_count, i_shape_contact *out, size_t room);
+int32_t i_shape_kinds_of_contacts_i64(const i_shape_point_i64 *edges, size_t count, uint8_t *out, size_t room);
 int32_t i_shape_validity_shapes_i64(const i_shape_point_i64 *points, size_t count, const size_t *contours, size_t contour_offset_count, const size_t *shapes, size_t shape_offset_count, i_shape_fault *out, size_t room);
 bool i_shape_area_two_i64(const i_shape_point_i64 *points, size_t count, i_shape_halves *area);
 int32_t i_shape_is_simple_contours_i64(const i_shape_point_i64 *points, size_t count, const size_t *offsets, size_t offset_count, uint8_t *out, size_t room);

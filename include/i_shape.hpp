@@ -178,6 +178,14 @@ struct Contact {
     std::size_t second;
 };
 
+/* How two edges meet. An edge includes its ends, and may be a single point. */
+enum class ContactKind : std::uint8_t {
+    none = I_SHAPE_NO_CONTACT,   /* they share no point */
+    crossing = I_SHAPE_CROSSING, /* the ends of each lie on both sides of the line of the other, none on it */
+    touch = I_SHAPE_TOUCH,       /* they share one point, and don't cross: so does an edge with the one that follows it */
+    overlap = I_SHAPE_OVERLAP    /* they share more than one point */
+};
+
 /* The kinds of a polygon's fault, in the order in which it is tested for them. */
 enum class FaultKind : std::size_t {
     valid = I_SHAPE_VALID,                   /* no fault */
@@ -241,6 +249,7 @@ struct Calls {
         static constexpr auto first_contact_of_rings = i_shape_first_contact_of_rings_i##W; \
         static constexpr auto contacts = i_shape_contacts_i##W; \
         static constexpr auto contacts_of_rings = i_shape_contacts_of_rings_i##W; \
+        static constexpr auto kinds_of_contacts = i_shape_kinds_of_contacts_i##W; \
         static constexpr auto validity_shapes = i_shape_validity_shapes_i##W; \
         static constexpr auto area_two = i_shape_area_two_i##W; \
         static constexpr auto is_simple_contours = i_shape_is_simple_contours_i##W; \
@@ -364,6 +373,13 @@ inline std::optional<Error> bad_offsets(Array array, Offsets offsets, std::size_
     std::snprintf(words, sizeof words, "%s[%zu] is %zu, %s %zu", name, place, offset, is_below ? "below the one before it," : "above the count,",
                   is_below ? offsets.data()[place - 1] : count);
     return Error(Code::bad_offsets, array, place, std::nullopt, words);
+}
+
+/* The error of so many points, which aren't four for each pair of edges. */
+inline Error bad_pairs(std::size_t count) noexcept {
+    char words[96];
+    std::snprintf(words, sizeof words, "there are %zu points, not four for each pair of edges", count);
+    return Error(Code::bad_offsets, Array::points, std::nullopt, std::nullopt, words);
 }
 
 /* The error of an array of the answer that has not so much room. */
@@ -849,6 +865,19 @@ std::vector<Contact> contacts_of_rings(const Points &points, const Offsets &offs
             return detail::CallsOf<Points>::contacts_of_rings(detail::read(points), std::size(points), detail::read_offsets(all), all.size(), out, room);
         },
         points, detail::Offsets(all));
+}
+
+/* How the edges of each of many pairs meet. There are four points for each pair: the ends of the first edge, and those of
+ * the second. It throws Code::bad_offsets where the number of points isn't a multiple of four, and Code::unsafe where a
+ * point isn't safe. */
+template <class Points>
+std::vector<ContactKind> kinds_of_contacts(const Points &edges) {
+    std::vector<ContactKind> kinds(std::size(edges) / 4);
+    const std::int32_t answer = detail::CallsOf<Points>::kinds_of_contacts(detail::read(edges), std::size(edges),
+                                                                           detail::address<std::uint8_t>(kinds.data()), kinds.size());
+    if (answer == I_SHAPE_BAD_OFFSETS) throw detail::bad_pairs(std::size(edges));
+    detail::count_of(answer, edges);
+    return kinds;
 }
 
 /* The first fault of each of many polygons, which lie as in Shapes. It throws Code::bad_offsets where the offsets don't

@@ -206,6 +206,7 @@ public:
         test_contours();
         test_measures();
         test_contacts();
+        test_kinds();
         test_validity();
         test_holders();
         test_tests();
@@ -490,6 +491,18 @@ private:
         check(many.size() == 27 && many[26].first == 6 && many[26].second == 8, "contacts", "more than points");
     }
 
+    void test_kinds() const {
+        using i_shape::ContactKind;
+        const Contour bow_tie = {point(0, 0), point(4, 4), point(4, 0), point(0, 4)};
+        Contour pairs = bow_tie;
+        pairs.insert(pairs.end(), {point(0, 0), point(4, 0), point(2, 0), point(6, 0)});
+        pairs.insert(pairs.end(), {point(0, 0), point(4, 0), point(2, 3), point(2, 0)});
+        pairs.insert(pairs.end(), {point(0, 0), point(4, 0), point(5, 0), point(6, 0)});
+        const std::vector<ContactKind> kinds = {ContactKind::crossing, ContactKind::overlap, ContactKind::touch, ContactKind::none};
+        check(i_shape::kinds_of_contacts(pairs) == kinds, "kinds_of_contacts", "each kind");
+        check(i_shape::kinds_of_contacts(Contour()).empty(), "kinds_of_contacts", "no pair");
+    }
+
     /* A polygon of each kind: a bow tie with a line of two points for a hole, a hole that touches the outer contour, one outside it and one in another; and an
      * empty one, with which they aren't the first. */
     void test_validity() const {
@@ -523,6 +536,8 @@ private:
         throws(Code::unsafe, "contacts", "a point that isn't safe", [&] { i_shape::contacts(unsafe); });
         throws(Code::unsafe, "contacts_of_rings", "a point that isn't safe", [&] { i_shape::contacts_of_rings(unsafe, whole); });
         throws(Code::bad_offsets, "contacts_of_rings", "no offset", [&] { i_shape::contacts_of_rings(square(), none); });
+        throws(Code::unsafe, "kinds_of_contacts", "a point that isn't safe", [&] { i_shape::kinds_of_contacts(unsafe); });
+        throws(Code::bad_offsets, "kinds_of_contacts", "a point too few", [&] { i_shape::kinds_of_contacts(Contour(3, point(0, 0))); });
         throws(Code::unsafe, "are_simple_polygons", "a point that isn't safe", [&] { i_shape::are_simple_polygons(unsafe, whole); });
         throws(Code::bad_offsets, "are_simple_polygons", "no offset", [&] { i_shape::are_simple_polygons(square(), none); });
         throws(Code::unsafe, "validity", "a point that isn't safe", [&] { i_shape::validity(unsafe, whole, one); });

@@ -600,6 +600,34 @@ static void AT(test_contacts_of_rings)(void) {
     WITH_EACH_GROWTH_FAILED(CALL(contacts_of_rings)(given, 12, all, 4, out, 4), is_filled(out, sizeof out), growths == 1, W, "contacts_of_rings");
 }
 
+static void AT(test_kinds)(void) {
+    const COORDINATE most = LEAST_UNSAFE - 1;
+    POINT given[40] = {{0, 0}, {4, 4}, {0, 4}, {4, 0},                       /* across */
+                       {(COORDINATE)-most, (COORDINATE)-most}, {most, most}, {(COORDINATE)-most, most}, {most, (COORDINATE)-most}, /* the same, as far as is safe */
+                       {0, 0}, {4, 0}, {2, 3}, {2, 0},                       /* an end on the other edge */
+                       {0, 0}, {4, 0}, {4, 0}, {6, 1},                       /* one follows the other */
+                       {0, 0}, {4, 0}, {6, 0}, {2, 0},                       /* along */
+                       {0, 0}, {4, 0}, {4, 0}, {0, 0},                       /* there and back */
+                       {0, 0}, {4, 0}, {5, 0}, {6, 0},                       /* apart, on one line */
+                       {1, 1}, {1, 1}, {0, 0}, {2, 2},                       /* a single point on the other edge */
+                       {1, 1}, {1, 1}, {1, 1}, {1, 1},                       /* a single point twice */
+                       {1, 2}, {1, 2}, {0, 0}, {2, 2}};                      /* a single point beside the other edge */
+    const uint8_t kinds[10] = {I_SHAPE_CROSSING, I_SHAPE_CROSSING, I_SHAPE_TOUCH, I_SHAPE_TOUCH, I_SHAPE_OVERLAP,
+                               I_SHAPE_OVERLAP, I_SHAPE_NO_CONTACT, I_SHAPE_TOUCH, I_SHAPE_TOUCH, I_SHAPE_NO_CONTACT};
+    uint8_t out[12];
+    fill(out, sizeof out);
+    check(CALL(kinds_of_contacts)(given, 40, out, 12) == 0 && !memcmp(out, kinds, sizeof kinds) && is_filled(out + 10, 2), W, "kinds_of_contacts", "each kind");
+    fill(out, sizeof out);
+    check(CALL(kinds_of_contacts)(given, 40, out, 10) == 0 && !memcmp(out, kinds, sizeof kinds), W, "kinds_of_contacts", "room for no more");
+    fill(out, sizeof out);
+    check(CALL(kinds_of_contacts)(given, 0, out, 0) == 0, W, "kinds_of_contacts", "no pair");
+    given[39].y = LEAST_UNSAFE;
+    check(CALL(kinds_of_contacts)(given + 1, 39, out, 0) == I_SHAPE_BAD_OFFSETS, W, "kinds_of_contacts", "three points in place of four");
+    check(CALL(kinds_of_contacts)(given, 40, out, 9) == I_SHAPE_NO_ROOM, W, "kinds_of_contacts", "room for nine of ten");
+    check(CALL(kinds_of_contacts)(given, 40, out, 10) == I_SHAPE_UNSAFE, W, "kinds_of_contacts", "a last point that isn't safe");
+    check(is_filled(out, sizeof out), W, "kinds_of_contacts", "codes leave the array as it was");
+}
+
 /* Behind a point that no contour has, and a contour that no polygon has: a polygon of each kind, and one without contours. */
 static void AT(test_validity)(void) {
     const POINT given[50] = {{LEAST_UNSAFE, 0},
@@ -865,6 +893,7 @@ static void AT(test_width)(void) {
     AT(test_contacts)();
     AT(test_all_contacts)();
     AT(test_contacts_of_rings)();
+    AT(test_kinds)();
     AT(test_validity)();
     AT(test_contacts_without_memory)();
     AT(test_area)();

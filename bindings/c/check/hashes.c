@@ -176,6 +176,9 @@ static void tell_all(uint64_t seed, size_t rounds) {
     hash_forms_i16(rounds);
     hash_forms_i32(rounds);
     hash_forms_i64(rounds);
+    hash_kinds_i16(rounds);
+    hash_kinds_i32(rounds);
+    hash_kinds_i64(rounds);
 }
 
 int main(int argc, char **argv) {

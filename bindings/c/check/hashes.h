@@ -166,6 +166,17 @@ static void AT(hash_forms)(size_t rounds) {
     HASH(canonical_unoriented_polygons, FORMED);
 }
 
+/* The same points, as many as there are bytes to write of, and in nine of ten runs four for each pair of edges. */
+static void AT(make_pairs)(void) {
+    AT(make)();
+    if (count > 4 * MOST_ABOUT) count = 4 * MOST_ABOUT;
+    if (!one_in(10)) count -= count % 4;
+}
+
+static void AT(hash_kinds)(size_t rounds) {
+    HASH_MADE(make_pairs, kinds_of_contacts, (POINTS, bytes, room(count / 4)));
+}
+
 #undef FORMED
 #undef JOINED
 #undef JOIN

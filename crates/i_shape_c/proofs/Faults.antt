@@ -58,13 +58,6 @@ rebased_divides offsets points n parted count =
 pub fault_placed : (points own_points : List Point) (offsets own : List ℕ) (contour : ℕ) (validity : Validity) → own ≡ rebased offsets → own_points ≡ points_between points offsets → IsFirstFault own own_points validity → IsFaultOf points offsets contour (placed contour (offset offsets 0) validity)
 fault_placed points own_points offsets own contour validity less part first = record { validity = validity; first = subst₂ (λ (l : List ℕ) (c : List Point). IsFirstFault l c validity) less part first; is = refl }
 
--- writing fault k extends the first k faults to k + 1
-pub faults_more : (R : ℕ → Fault → Type 0) (out : List Fault) (k place : ℕ) (written : Fault) → k + 1 ≡ place → k < length out → AllZip R (range_with_len 0 k) (take k out) → R k written → AllZip R (range_with_len 0 place) (take place (set out k written))
-faults_more R out k place written next room before here =
-    let one_more : range_with_len 0 (k + 1) ≡ range_with_len 0 k ++ k ∷ [] = sym (map-id (range_with_len 0 (k + 1))) ∙ map-range_with_len_more (λ (j : ℕ). j) 0 k k (let same : 0 + k ≡ k = omega arith in same) ∙ ap (λ (l : List ℕ). l ++ k ∷ []) (map-id (range_with_len 0 k)) in
-    subst (λ n. AllZip R (range_with_len 0 n) (take n (set out k written))) next
-    (subst₂ (λ (ks : List ℕ) (faults : List Fault). AllZip R ks faults) (sym one_more) (sym (take_more_set out k written room)) (all_zipped_more R (range_with_len 0 k) (take k out) k written before here))
-
 -- The offsets of the contours of polygon `place` - 1.
 module _ (contours shapes : List ℕ) (points place : ℕ) (contours_parted : PartsPoints points contours) (shapes_parted : PartsPoints (length contours - 1) shapes) (some : 0 < place) (less : place < length shapes) where
   abbrev own_offsets : List ℕ

@@ -16,4 +16,5 @@ pub mod RingsMoved
 pub mod Compacted
 pub mod Faults
 pub mod Holding
+pub mod Crossing
 pub mod Examples

@@ -15,3 +15,4 @@ pub mod Locations
 pub mod Contacts
 pub mod Validity
 pub mod Holders
+pub mod Kinds

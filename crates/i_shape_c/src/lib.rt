@@ -12,6 +12,7 @@ mod contacts;
 mod contour;
 mod forms;
 mod holders;
+mod kinds;
 mod lists;
 mod location;
 mod measures;

@@ -13,8 +13,9 @@ use crate::erased::i_shape_c::version::i_shape_version;
 use crate::erased::i_shape_c::{area, winding as about};
 use crate::erased::i_shape_contacts as edges;
 use crate::erased::i_shape_contacts::course::{Course, Cycle, Rings};
-use crate::erased::i_shape_contacts::kinds::kind_by;
+use crate::erased::i_shape_contacts::kinds::{kind_by, kind_of};
 use crate::erased::i_shape_contacts::plain::are_in_contact;
+use crate::erased::i_shape_contacts::segments::do_meet;
 use crate::erased::i_shape_core::area::UnsafeArea;
 use crate::erased::i_shape_core::cleaner::ContourCleaner;
 use crate::erased::i_shape_core::fill_rule as proved_rule;
@@ -395,13 +396,28 @@ fn kind_if_contact<I: IntNumber>(
     if first >= second || second >= points.len() || !are_in_contact(points, course, first, second) {
         return None;
     }
-    Some(
-        match kind_by(points, course, edges::Contact { first, second }) {
-            edges::ContactKind::Crossing => ContactKind::Crossing,
-            edges::ContactKind::Touch => ContactKind::Touch,
-            edges::ContactKind::Overlap => ContactKind::Overlap,
-        },
-    )
+    let contact = edges::Contact { first, second };
+    Some(own_kind(kind_by(points, course, contact)))
+}
+
+/// Returns how two edges meet, each given by its ends; `None` if they share no point.
+pub(crate) fn kind_of_edges<I: IntNumber>(
+    [a, b]: [IntPoint<I>; 2],
+    [c, e]: [IntPoint<I>; 2],
+) -> Result<Option<ContactKind>, Error> {
+    let ends = [a, b, c, e];
+    check_safe(&ends)?;
+    let [a, b, c, e] = ends.map(ContourPoint::to_point);
+    Ok(do_meet(a, b, c, e).then(|| own_kind(kind_of(a, b, c, e))))
+}
+
+/// Returns the kind by the name that callers know.
+fn own_kind(kind: edges::ContactKind) -> ContactKind {
+    match kind {
+        edges::ContactKind::Crossing => ContactKind::Crossing,
+        edges::ContactKind::Touch => ContactKind::Touch,
+        edges::ContactKind::Overlap => ContactKind::Overlap,
+    }
 }
 
 /// Returns the same contact of a list in which so many points lie before.

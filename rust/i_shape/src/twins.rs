@@ -49,12 +49,12 @@ macro_rules! twins {
     };
     (
         $(#[$both:meta])* $panics:ident $(, $must_use:ident)?;
-        $(#[$first:meta])* $visibility:vis fn $tries:ident
+        $(#[$first:meta])* $visibility:vis fn $tries:ident $([$($generics:tt)*])?
             ($($argument:ident: $type:ty),* $(,)?) -> Result<$answer:ty, Error> $body:tt
         $($rest:tt)*
     ) => {
         twins!(@forms [$(#[$both])*] [$(#[$first])*] [$visibility] [$(#[$must_use])?] $panics $tries
-            "" [$tries] [] [] [$($argument: $type),*] [$($argument),*] [$answer] $body);
+            "" [$tries] [$($($generics)*)?] [] [$($argument: $type),*] [$($argument),*] [$answer] $body);
         twins!($($rest)*);
     };
     (

@@ -17,6 +17,7 @@ ghost use Rattle.i_shape_c.specs.Locations.{query, FillsPoint, IsFilledByte, IsL
 ghost use Rattle.i_shape_c.specs.Places.{IsFirstUnsafe};
 ghost use Rattle.i_shape_c.specs.Contacts.{FindsContact, FindsContacts, FindsRingContact, FindsRingContacts};
 ghost use Rattle.i_shape_c.specs.Validity.{FindsFaults};
+ghost use Rattle.i_shape_c.specs.Kinds.{FindsKinds};
 ghost use Rattle.i_shape_c.specs.Formed.{FormsEach};
 ghost use Rattle.i_shape_c.specs.Holders.{FindsHolders};
 
@@ -27,6 +28,7 @@ use crate::contacts::{find_contact, find_contact_of_rings, find_contacts, find_c
 use crate::contour::clean_contour;
 use crate::forms::form_polygons;
 use crate::holders::find_holders;
+use crate::kinds::find_kinds;
 use crate::location::{Filled, Located, contains_by, tell_points};
 use crate::places::first_unsafe;
 use crate::point::PointI16;
@@ -487,6 +489,16 @@ pub extern "C" fn i_shape_contacts_of_rings_i16(
     ensures { FindsRingContacts w16 point_i16 points.now offsets.now out.old out.new result }
 {
     find_contacts_of_rings(alloc, points, offsets, out)
+}
+
+/// Writes how each pair of edges meets, one byte each: 0 if they share no point, 1 if they cross, 2 if they touch, 3 if
+/// they overlap. The pairs are given as four points each, the ends of the first edge and those of the second. Returns 0,
+/// or a code below 0.
+#[unsafe(no_mangle)]
+pub extern "C" fn i_shape_kinds_of_contacts_i16(edges: &[PointI16], out: &mut [u8]) -> i32
+    ensures { FindsKinds w16 point_i16 edges.now out.old out.new result }
+{
+    find_kinds(edges, out)
 }
 
 /// Writes the first fault of each polygon. Returns 0, or a code below 0.

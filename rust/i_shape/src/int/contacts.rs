@@ -23,7 +23,7 @@
 //! edges, with the same result.
 //!
 //! `contacts` returns them all, in quadratic time, and `kind_of_contact` whether two edges cross, touch
-//! or overlap.
+//! or overlap. [`kind_of_edges`] does of any two edges.
 //!
 //! ```
 //! use i_shape::int::contacts::{ContactKind, ContourContacts};
@@ -79,6 +79,34 @@ pub enum ContactKind {
     Touch,
     /// They share more than one point.
     Overlap,
+}
+
+twins! {
+    /// Returns how two edges meet, each given by its two ends; `None` if they share no point.
+    ///
+    /// An edge includes its ends, and may be a single point. Unlike by
+    /// [`kind_of_contact`](ContourContacts::kind_of_contact), an edge and the one that follows it at
+    /// least touch.
+    ///
+    /// ```
+    /// use i_shape::int::IntPoint;
+    /// use i_shape::int::contacts::{ContactKind, kind_of_edges};
+    ///
+    /// let edge = |start: [i32; 2], end: [i32; 2]| [IntPoint::from(start), IntPoint::from(end)];
+    /// let base = edge([0, 0], [4, 0]);
+    /// assert_eq!(kind_of_edges(base, edge([2, -1], [2, 3])), Some(ContactKind::Crossing));
+    /// assert_eq!(kind_of_edges(base, edge([2, 0], [2, 3])), Some(ContactKind::Touch));
+    /// assert_eq!(kind_of_edges(base, edge([2, 0], [6, 0])), Some(ContactKind::Overlap));
+    /// assert_eq!(kind_of_edges(base, edge([5, 0], [6, 0])), None);
+    /// ```
+    kind_of_edges, must_use;
+    /// Returns [`Error::UnsafePoint`] if an end isn't safe, with its index among the four.
+    pub fn try_kind_of_edges[I: IntNumber](
+        first: [IntPoint<I>; 2],
+        second: [IntPoint<I>; 2],
+    ) -> Result<Option<ContactKind>, Error> {
+        calls::kind_of_edges(first, second)
+    }
 }
 
 /// What is wrong with a polygon, if anything. The call that returns it says what the indices of

@@ -3,10 +3,13 @@
 use crate::shared::{
     Number, Numbers, Place, SQUARE, Written, at_each_width, contour, point, shape, shapes,
 };
+use i_shape::Error;
 use i_shape::flat::{Contours, OwnedContours, OwnedShapes, Shapes};
 use i_shape::int::IntPoint;
 use i_shape::int::contacts::ContactKind::{Crossing, Overlap, Touch};
-use i_shape::int::contacts::{Contact, ContactKind, ContourContacts};
+use i_shape::int::contacts::{
+    Contact, ContactKind, ContourContacts, kind_of_edges, try_kind_of_edges,
+};
 
 at_each_width!(
     contours_by_hand,
@@ -14,7 +17,9 @@ at_each_width!(
     rings_of_a_grid,
     polygons_of_a_grid,
     more_contacts_than_points,
-    no_contacts
+    no_contacts,
+    edges_of_a_grid,
+    unsafe_ends
 );
 
 /// What two segments share: a point is its numerators and their denominator.
@@ -89,8 +94,13 @@ fn kind(places: &[Place], first: usize, second: usize) -> Option<ContactKind> {
     if follows(first, second) || follows(second, first) {
         return None;
     }
-    let is_end = ends.concat().into_iter().any(|end| are_equal(found, end));
-    Some(if is_end { Touch } else { Crossing })
+    Some(kind_at(found, ends))
+}
+
+/// The kind of two edges that share one point alone.
+fn kind_at(shared: [i64; 3], ends: [Segment; 2]) -> ContactKind {
+    let is_end = ends.concat().into_iter().any(|end| are_equal(shared, end));
+    if is_end { Touch } else { Crossing }
 }
 
 /// All contacts and their kinds.
@@ -250,4 +260,34 @@ fn no_contacts<I: Number>() {
     );
     let greatest = contact([usize::MAX - 1, usize::MAX]);
     assert_eq!(contour::<I>(&SQUARE).kind_of_contact(greatest), None);
+}
+
+fn edges_of_a_grid<I: Number>() {
+    let points: Vec<[i8; 2]> = (0..9).map(|k| [k % 3, k / 3]).collect();
+    let edges: Vec<_> = (points.iter())
+        .flat_map(|&start| points.iter().map(move |&end| [start, end]))
+        .collect();
+    let given = |edge: [[i8; 2]; 2]| edge.map(point::<I>);
+    let wide = |edge: [[i8; 2]; 2]| edge.map(|end| end.map(i64::from));
+    for &first in &edges {
+        for &second in &edges {
+            let ends = [first, second].map(wide);
+            let wanted = match shared(ends[0], ends[1]) {
+                Shared::Nothing => None,
+                Shared::One(found) => Some(kind_at(found, ends)),
+                Shared::Many => Some(Overlap),
+            };
+            let found = kind_of_edges(given(first), given(second));
+            assert_eq!(found, wanted, "{first:?} {second:?}");
+        }
+    }
+}
+
+fn unsafe_ends<I: Number>() {
+    let [safe, outside] = [
+        IntPoint::new(I::ZERO, I::ZERO),
+        IntPoint::new(I::ABOVE, I::ZERO),
+    ];
+    let found = try_kind_of_edges([safe, safe], [safe, outside]);
+    assert_eq!(found, Err(Error::UnsafePoint(3)));
 }

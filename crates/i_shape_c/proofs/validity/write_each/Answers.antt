@@ -4,7 +4,8 @@ use Rattle.i_shape_c.specs.Batch.{offset, PartsPoints, AreSafeContours}
 use Rattle.i_shape_c.specs.Polygons.{polygon_arrays}
 use Rattle.i_shape_c.specs.Validity.{IsFaultOf, IsFaultAt}
 use Rattle.i_shape_core.proofs.Lists.Rings.{back_more}
-use Rattle.i_shape_c.proofs.Faults.{within, own_parted, own_points, faults_more}
+use Rattle.i_shape_c.proofs.Faults.{within, own_parted, own_points}
+use Rattle.i_shape_c.proofs.Told.{index_more}
 use Rattle.i_shape_c.proofs.validity.write_each.Goals as goal
 
 pub overflow_add-shapes : goal.overflow_add-shapes
@@ -56,7 +57,7 @@ loop-place-preserved g c =
     c.part-offsets.ensures.part ∙ ap (λ (j : ℕ). slice_range contours (offset shapes k) (offset shapes j + 1)) (sym next) in
     let here : Is k c.fault_of.result = subst (λ (l : List ℕ). IsFaultOf (map at c.args.points.now) l (offset shapes k) c.fault_of.result) own c.fault_of.ensures.is in
     record {
-      each = faults_more Is c.loop-place.out k (place + 1 - 1) c.fault_of.result (next ∙ count) room c.loop-place.invariant.each here;
+      each = index_more Is c.loop-place.out k (place + 1 - 1) c.fault_of.result (next ∙ count) room c.loop-place.invariant.each here;
       rest = back_more c.loop-place.out c.args.out.now k (place + 1 - 1) c.fault_of.result (sym (next ∙ count)) c.loop-place.invariant.rest;
       long = c.fault_of.ensures.len ∙ c.loop-place.invariant.long;
     }
