@@ -128,6 +128,17 @@ export interface Contact {
     second: number;
 }
 
+/** How two edges meet. Paths may also cross at a vertex, where each edge of one only touches those of the other. */
+export type ContactKind =
+    /** They share no point. */
+    | "none"
+    /** The ends of each lie on both sides of the line of the other, none on it. */
+    | "crossing"
+    /** They share one point, and don't cross. So does an edge with the one that follows it, which isn't in contact with it. */
+    | "touch"
+    /** They share more than one point. */
+    | "overlap";
+
 /**
  * The first fault of a polygon, or `"valid"`. Rings and points are named by their places in all offsets and points that the call is given. A ring has
  * too few points if it has fewer than three, or only equal ones. Faults are looked for in this order.
@@ -201,6 +212,31 @@ export interface IShape {
      * @throws {OffsetsError} tested before whether points are safe
      */
     firstContactOfRings(points: Points, offsets: Offsets): Contact | undefined;
+
+    /**
+     * All pairs of edges that are in contact, by `first`, and those of one `first` by `second`. It tries all pairs of edges.
+     * @throws {UnsafePointError}
+     * @throws {OutOfMemoryError}
+     */
+    contacts(contour: Points): Contact[];
+
+    /**
+     * The same of all rings together, within one or between two. The places are those in `points`.
+     * @throws {OffsetsError} tested before whether points are safe
+     * @throws {UnsafePointError}
+     * @throws {OutOfMemoryError}
+     */
+    contactsOfRings(points: Points, offsets: Offsets): Contact[];
+
+    /**
+     * Of each pair of edges how they meet. `contacts` are what `contactsOfRings` returns, or other pairs of places in `points`; of one contour the offsets are
+     * `[0, points.length / 2]`.
+     * @throws {OffsetsError}
+     * @throws {RangeError} no ring has a point at such a place
+     * @throws {UnsafePointError} an end of these edges isn't safe
+     * @throws {OutOfMemoryError}
+     */
+    kindsOfContacts(points: Points, offsets: Offsets, contacts: readonly Contact[]): ContactKind[];
 
     /**
      * Of each polygon whether it is valid, or its first fault. It is valid if each ring has enough points, no two edges are in contact, each vertex of each hole is

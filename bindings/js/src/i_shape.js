@@ -3,6 +3,7 @@
  * i_shape.d.ts says what each call takes, returns and throws.
  */
 import { asOffsets, byteLengthOf, checkCoordinate, isInSafeRange, kindOf, lengthOf, offsetsFault } from "./arrays.js";
+import { contactsOf, edgesOf, kindsOf } from "./contacts.js";
 import { CollapsedError, GeoJsonError, IShapeError, OffsetsError, OutOfMemoryError, UnsafePointError } from "./errors.js";
 import { faultsOf } from "./faults.js";
 import { cleanedFeatures, fromGeoJson, toGeoJson } from "./geojson.js";
@@ -183,6 +184,27 @@ class IShape {
 
     firstContactOfRings(points, offsets) {
         return this.#findContact("first_contact_of_rings", points, asOffsets(offsets));
+    }
+
+    contacts(contour) {
+        return this.#listContacts("contacts", contour);
+    }
+
+    contactsOfRings(points, offsets) {
+        return this.#listContacts("contacts_of_rings", points, asOffsets(offsets));
+    }
+
+    kindsOfContacts(points, offsets, contacts) {
+        const kind = kindOf(points);
+        const rings = asOffsets(offsets);
+        return borrow(this.#exports, (loan) => {
+            const given = new Given(loan, points, kind, rings);
+            this.#checkOffsets(given);
+            const edges = new Given(loan, edgesOf(points, kind, rings, contacts), kind);
+            const out = loan.take(contacts.length);
+            this.#answered(this.#call("kinds_of_contacts", kind)(...edges.words, out, contacts.length), given);
+            return kindsOf(loan.read(Uint8Array, out, contacts.length));
+        });
     }
 
     polygonValidity(points, ringOffsets, polygonOffsets) {
@@ -420,9 +442,21 @@ class IShape {
             const given = new Given(loan, points, kind, ...offsets);
             const out = loan.take(8);
             const found = this.#answered(this.#call(name, kind)(...given.words, out, 2), given);
-            if (!found) return undefined;
-            const [first, second] = loan.read(Uint32Array, out, 2);
-            return { first, second };
+            return found ? contactsOf(loan.read(Uint32Array, out, 2))[0] : undefined;
+        });
+    }
+
+    /** The places of all two edges in contact. The call returns how many there are, also if there is room for fewer. */
+    #listContacts(name, points, ...offsets) {
+        const kind = kindOf(points);
+        return borrow(this.#exports, (loan) => {
+            const given = new Given(loan, points, kind, ...offsets);
+            const list = (room) => {
+                const out = loan.take(8 * room);
+                const count = this.#answered(this.#call(name, kind)(...given.words, out, room), given);
+                return count > room ? list(count) : contactsOf(loan.read(Uint32Array, out, 2 * count));
+            };
+            return list(countOf(points));
         });
     }
 

@@ -3,9 +3,9 @@ import { describe, test } from "node:test";
 import { IShapeError, OffsetsError, OutOfMemoryError, UnsafePointError, load } from "../src/i_shape.js";
 import { MODULE, describeWidths } from "./support/modules.js";
 
-const ONE = ["simplify", "despike", "canonical", "canonicalUnoriented", "isSimple", "hasNoSpikes", "isConvex", "isSimplePolygon", "firstContact"];
+const ONE = ["simplify", "despike", "canonical", "canonicalUnoriented", "isSimple", "hasNoSpikes", "isConvex", "isSimplePolygon", "firstContact", "contacts"];
 const RINGS = ["simplifyRings", "despikeRings", "canonicalRings", "canonicalUnorientedRings"];
-const RING_TESTS = ["isSimpleRings", "hasNoSpikesRings", "isConvexRings", "areSimplePolygons", "firstContactOfRings"];
+const RING_TESTS = ["isSimpleRings", "hasNoSpikesRings", "isConvexRings", "areSimplePolygons", "firstContactOfRings", "contactsOfRings"];
 const RINGS_OF_ANY_POINTS = ["isSafeRings", "areaTwoRings"];
 const POLYGONS = ["simplifyPolygons", "removeSpikes", "canonicalPolygons", "canonicalUnorientedPolygons", "polygonValidity"];
 // Calls on rings whose results are divided among polygons.

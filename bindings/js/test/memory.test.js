@@ -26,6 +26,8 @@ function callsOf(shapes, { points, number }) {
     for (const name of ["simplifyPolygons", "removeSpikes", "canonicalPolygons", "canonicalUnorientedPolygons"]) {
         calls[name] = () => shapes[name](rings, OFFSETS, POLYGONS);
     }
+    for (const name of ["contacts", "contactsOfRings"]) calls[name] = () => shapes[name](contour, [0, 3, 8]);
+    calls.kindsOfContacts = () => shapes.kindsOfContacts(contour, [0, 3, 8], [{ first: 2, second: 7 }]);
     calls.locateInPolygons = () => shapes.locateInPolygons(rings, OFFSETS, POLYGONS, rings);
     calls.compactPolygons = () => shapes.compactPolygons(OFFSETS, POLYGONS);
     return calls;
@@ -127,6 +129,7 @@ describe("memory", async () => {
         const count = 16384;
         const contour = width.points(Array.from({ length: count }, (_, k) => [k >> 2, (k >> 1) % 2]).flat());
         const offsets = Array.from({ length: 1025 }, (_, k) => 16 * k);
+        const overlapping = width.points(Array.from({ length: 500 }, () => [0, 0, 4, 0]).flat());
         for (const [name, call] of Object.entries({
             simplify: (it) => it.simplify(contour),
             despike: (it) => it.despike(contour),
@@ -140,6 +143,9 @@ describe("memory", async () => {
             removeSpikes: (it) => it.removeSpikes(contour, offsets, [0, 512, 1024]),
             canonicalPolygons: (it) => it.canonicalPolygons(contour, offsets, [0, 512, 1024]),
             canonicalUnorientedPolygons: (it) => it.canonicalUnorientedPolygons(contour, offsets, [0, 512, 1024]),
+            contacts: (it) => it.contacts(overlapping),
+            contactsOfRings: (it) => it.contactsOfRings(overlapping, [500, 1000]),
+            kindsOfContacts: (it) => it.kindsOfContacts(contour, [0, count], Array(count).fill({ first: 0, second: 9 })),
         })) {
             test(`${name} at ${width.bits} bits: a failed allocation is an error, and nothing is held`, async () => {
                 const wanted = call(shapes);

@@ -3,7 +3,7 @@ import {
     CollapsedError, FILL_RULES, GeoJsonError, IShapeError, OffsetsError, UnsafePointError, fromGeoJson, load, toGeoJson,
     type FillRule, type IShape, type Polygons, type Rings,
 } from "../src/i_shape.js";
-import type { Validity } from "../src/i_shape.js";
+import type { Contact, ContactKind, Validity } from "../src/i_shape.js";
 
 class Own extends Int32Array {
     readonly owner = "a class of the caller's";
@@ -66,6 +66,12 @@ async function rings(shapes: IShape): Promise<void> {
     for (const fault of faults) if (fault.kind === "holeWithin") console.log(fault.ring, fault.other);
     // @ts-expect-error: a valid polygon has no ring at fault
     faults.filter((fault) => fault.kind === "valid").map((fault) => fault.ring);
+    const contacts: Contact[] = [...shapes.contacts(points), ...shapes.contactsOfRings(points, [0, 1])];
+    const kinds: ContactKind[] = shapes.kindsOfContacts(points, [0, 1], contacts);
+    // @ts-expect-error: no such kind
+    kinds.filter((kind) => kind === "contact");
+    // @ts-expect-error: places by themselves
+    shapes.kindsOfContacts(points, [0, 1], [[0, 2]]);
     const windings: Int32Array = shapes.windingNumbers(new Own(2), Uint32Array.of(0, 1), polygons.points);
     const rules: readonly FillRule[] = FILL_RULES;
     const filled: boolean[][] = rules.map((rule) => shapes.containsPoints(points, [0, 1], points, rule));

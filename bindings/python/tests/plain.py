@@ -133,9 +133,9 @@ def shared(a, b, c, e):
     return (low, high) if low <= high else None
 
 
-def first_contact(rings):
-    """The first two edges of the rings that share a point other than one at
-    which one of them follows the other, by all pairs."""
+def contacts(rings):
+    """Each two edges of the rings that share a point other than one at which
+    one of them follows the other, and how they meet, by all pairs."""
     ends = []
     for ring in rings:
         start, count = len(ends), len(ring)
@@ -143,11 +143,24 @@ def first_contact(rings):
     points = [tuple(map(int, point)) for ring in rings for point in ring]
     for i, of_i in enumerate(ends):
         for j in range(i + 1, len(ends)):
-            both = shared(points[i], points[of_i], points[j], points[ends[j]])
+            edges = points[i], points[of_i], points[j], points[ends[j]]
+            both = shared(*edges)
             allowed = [points[j]] * (of_i == j) + [points[i]] * (ends[j] == i)
             if both and (both[0] != both[1] or both[0] not in allowed):
-                return i, j
-    return None
+                yield i, j, kind_of_contact(both, edges)
+
+
+def kind_of_contact(both, edges):
+    """How edges meet, by the ends of what they share."""
+    if both[0] != both[1]:
+        return i_shape.ContactKind.OVERLAP
+    if both[0] in edges:
+        return i_shape.ContactKind.TOUCH
+    return i_shape.ContactKind.CROSSING
+
+
+def first_contact(rings):
+    return next(((i, j) for i, j, _ in contacts(rings)), None)
 
 
 def is_simple_polygon(ring):

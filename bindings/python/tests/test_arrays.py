@@ -30,6 +30,10 @@ CALLS = (
                                              [0, 1]),
     lambda points: i_shape.canonical_polygons(points, [0, len(points)],
                                               [0, 1], oriented=True),
+    i_shape.contacts,
+    lambda points: i_shape.contacts_of_rings(points, [0, len(points)]),
+    lambda points: i_shape.kinds_of_contacts(points,
+                                             i_shape.contacts(points)),
 )
 
 

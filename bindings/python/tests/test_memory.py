@@ -139,6 +139,29 @@ class FailedAllocations(unittest.TestCase):
             self.skipTest("the system gave memory beyond the limit")
         self.assertEqual(told.stdout, word * 5)
 
+    def test_no_memory_for_the_answer(self):
+        # Each two of these edges overlap.
+        program = textwrap.dedent("""
+            import resource
+            import numpy as np
+            import i_shape
+            points = np.tile(np.array([(0, 0), (4, 0)]), (2000, 1))
+            _, hard = resource.getrlimit(resource.RLIMIT_AS)
+            with open("/proc/self/statm") as file:
+                held = int(file.read().split()[0])
+            room = held * resource.getpagesize() + 10 ** 7
+            resource.setrlimit(resource.RLIMIT_AS, (room, hard))
+            try:
+                i_shape.contacts(points)
+            except MemoryError:
+                print("refused")
+            print(i_shape.contacts(points[:3]).tolist())
+        """)
+        told = subprocess.run([sys.executable, "-c", program],
+                              capture_output=True, text=True, check=False)
+        self.assertEqual((told.stdout, told.stderr),
+                         ("refused\n[[0, 1]]\n", ""))
+
 
 if __name__ == "__main__":
     unittest.main()

@@ -8,10 +8,11 @@ from typing import Any, Optional, TypeVar
 import numpy as np
 import numpy.typing as npt
 
-from ._library import (CALLS, Array, address, as_parts, as_points, raise_code,
-                       run_parts)
+from ._library import (CALLS, Array, address, as_pairs, as_parts, as_points,
+                       raise_code, run_parts, words)
 from ._polygons import GivenPolygons, given_polygons
-from ._rings import equal_cuts, given_rings, raise_codes
+from ._rings import GivenRings, equal_cuts, given_rings, raise_codes
+from ._windings import Contours, given_contours
 
 Int = TypeVar("Int", np.int16, np.int32, np.int64)
 
@@ -46,6 +47,7 @@ def first_contact(points: npt.NDArray[Int]) -> Optional[tuple[int, int]]:
 
     See also
     --------
+    contacts : all of them.
     first_contact_of_rings : of many rings together.
     is_simple_polygon : whether there is none, and the contour has an inside.
 
@@ -103,14 +105,215 @@ def first_contact_of_rings(
     (2, 4)
     """
     given = given_rings(points, offsets)
-    start, end = int(given.offsets[0]), int(given.offsets[-1])
-    its, rings = given.points[start:end], given.offsets - start
+    start, its, rings = _from_first(given)
     places = np.empty(2, np.uintp)
     code = CALLS[its.itemsize].first_contact_of_rings(
-        address(its), len(its), address(rings), len(rings), address(places),
-        len(places))
+        *words(its, rings, places))
     raise_codes([code], given)
     return _pair(places, start) if code else None
+
+
+def _from_first(given: GivenRings) -> tuple[int, Array, Array]:
+    """The first offset, and the rings as if it were 0.
+
+    Of those a call copies no offsets.
+    """
+    points, offsets, _ = given
+    start, end = int(offsets[0]), int(offsets[-1])
+    return start, points[start:end], offsets - start
+
+
+def _list_contacts(call: Any, *given: Array) -> tuple[int, Array]:
+    """The code of a call that lists contacts, and what it lists."""
+    out = np.empty((len(given[0]), 2), np.intp)
+    while (count := call(*words(*given, out))) > len(out):
+        out = np.empty((count, 2), np.intp)
+    out.resize((max(count, 0), 2), refcheck=False)
+    return count, out
+
+
+def contacts(points: npt.NDArray[Int]) -> npt.NDArray[np.intp]:
+    """Return all pairs of edges of a contour that are in contact.
+
+    :func:`first_contact` says what that is. All pairs of edges are tried:
+    for twice as many points it takes four times as long.
+
+    Parameters
+    ----------
+    points : array of shape (n, 2), int16, int32 or int64
+        The contour, as for :func:`simplify`.
+
+    Returns
+    -------
+    array of shape (k, 2) and dtype intp
+        Of each pair the indices of the points from which the two edges
+        lead, the lesser first. Pairs are in ascending order.
+
+    Raises
+    ------
+    UnsafePointError, TypeError, ValueError
+        As :func:`simplify` does.
+    MemoryError
+        There is no memory for the pairs.
+
+    See also
+    --------
+    first_contact : the first pair alone, in less time.
+    contacts_of_rings : of many rings together.
+    kinds_of_contacts : whether the edges cross, touch or overlap.
+
+    Examples
+    --------
+    A square with a spike.
+
+    >>> import numpy as np
+    >>> from i_shape import contacts
+    >>> contacts(np.array([(0, 0), (4, 0), (4, 8), (4, 4), (0, 4)])).tolist()
+    [[1, 2], [1, 3]]
+    """
+    points = as_points(points)
+    code, found = _list_contacts(CALLS[points.itemsize].contacts, points)
+    if code < 0:
+        raise_code(code, points)
+    return found
+
+
+def contacts_of_rings(points: npt.NDArray[Int],
+                      offsets: npt.ArrayLike) -> npt.NDArray[np.intp]:
+    """Return all pairs of edges of the rings that are in contact.
+
+    The edges are of one ring or of two. Of a polygon, pass the rings of that
+    polygon alone: those of two polygons may touch.
+
+    Parameters
+    ----------
+    points : array of shape (n, 2), int16, int32 or int64
+    offsets : array of shape (m + 1,), of whole numbers
+        As for :func:`simplify_rings`.
+
+    Returns
+    -------
+    array of shape (k, 2) and dtype intp
+        The indices in ``points`` as of :func:`contacts`.
+
+    Raises
+    ------
+    OffsetsError, UnsafePointError, TypeError, ValueError
+        As :func:`simplify_rings` does.
+    MemoryError
+        There is no memory for the pairs.
+
+    Examples
+    --------
+    A square, and in it a hole that touches its upper edge.
+
+    >>> import numpy as np
+    >>> from i_shape import contacts_of_rings
+    >>> points = np.array([(0, 0), (9, 0), (9, 9), (0, 9),
+    ...                    (2, 2), (4, 9), (6, 2)])
+    >>> contacts_of_rings(points, [0, 4, 7]).tolist()
+    [[2, 4], [2, 5]]
+    """
+    given = given_rings(points, offsets)
+    start, its, rings = _from_first(given)
+    code, found = _list_contacts(CALLS[its.itemsize].contacts_of_rings, its,
+                                 rings)
+    raise_codes([code], given)
+    found += start
+    return found
+
+
+class ContactKind(enum.IntEnum):
+    """How two edges meet.
+
+    The numbers are those that :func:`kinds_of_contacts` returns. Paths may
+    also cross at a vertex, where each edge of one only touches those of the
+    other.
+
+    Attributes
+    ----------
+    NONE
+        They share no point.
+    CROSSING
+        The ends of each edge lie on both sides of the line of the other,
+        none on it.
+    TOUCH
+        They share one point, and don't cross. So does an edge with the one
+        that follows it, which isn't in contact with it.
+    OVERLAP
+        They share more than one point.
+    """
+
+    NONE = 0
+    CROSSING = 1
+    TOUCH = 2
+    OVERLAP = 3
+
+
+def kinds_of_contacts(contours: Contours[Int],
+                      contacts: npt.ArrayLike) -> npt.NDArray[np.uint8]:
+    """Return whether edges cross, touch or overlap.
+
+    Parameters
+    ----------
+    contours : array of shape (n, 2), or :class:`Rings`, or a tuple
+        One contour, or the points and offsets of many, as for
+        :func:`winding_numbers`.
+    contacts : array of shape (k, 2), int16, int32 or int64
+        Of each pair of edges the indices of the points from which they
+        lead, as :func:`contacts` and :func:`contacts_of_rings` return them.
+
+    Returns
+    -------
+    array of shape (k,) and dtype uint8
+        Of each pair one of :class:`ContactKind`.
+
+    Raises
+    ------
+    IndexError
+        No contour has a point of such an index.
+    UnsafePointError
+        An end of these edges isn't safe. ``ring`` and ``point`` are those of
+        the first unsafe point of the contours.
+    OffsetsError, TypeError, ValueError
+        As :func:`winding_numbers` does.
+
+    Examples
+    --------
+    A square with a spike, and in it a hole that touches the upper edge.
+
+    >>> import numpy as np
+    >>> from i_shape import ContactKind, contacts_of_rings, kinds_of_contacts
+    >>> points = np.array([(0, 0), (9, 0), (9, 12), (9, 9), (0, 9),
+    ...                    (2, 2), (4, 9), (6, 2)])
+    >>> rings = points, [0, 5, 8]
+    >>> pairs = contacts_of_rings(*rings)
+    >>> kinds = kinds_of_contacts(rings, pairs)
+    >>> pairs[kinds == ContactKind.OVERLAP].tolist()
+    [[1, 2]]
+    >>> pairs[kinds == ContactKind.TOUCH].tolist()
+    [[1, 3], [3, 5], [3, 6]]
+    """
+    given = given_contours(contours)
+    edges = _edges(given, as_pairs(contacts, "contacts").astype(np.int64))
+    kinds = np.empty(len(edges) // 4, np.uint8)
+    code = CALLS[edges.itemsize].kinds_of_contacts(*words(edges, kinds))
+    raise_codes([code], given)
+    return kinds
+
+
+def _edges(given: GivenRings, places: Array) -> Array:
+    """The ends of the edges that lead from these places."""
+    points, offsets, _ = given
+    outside = (places < offsets[0]) | (places >= offsets[-1])
+    if outside.any():
+        raise IndexError(f"contacts have the index {places[outside][0]}:"
+                         " no contour has such a point")
+    rings = np.searchsorted(offsets, places, side="right") - 1
+    is_last = places + 1 == offsets[rings + 1]
+    following = np.where(is_last, offsets[rings], places + 1)
+    edges: Array = points[np.stack([places, following], axis=2)]
+    return edges.reshape(-1, 2)
 
 
 class Fault(enum.IntEnum):

@@ -99,6 +99,9 @@ class Calls(NamedTuple):
     locate_in_shapes: Any
     first_contact: Any
     first_contact_of_rings: Any
+    contacts: Any
+    contacts_of_rings: Any
+    kinds_of_contacts: Any
     validity_shapes: Any
     area_two: Any
     areas: Any
@@ -153,6 +156,12 @@ def _calls(bits: int, number: Any, area: Any) -> Calls:
         first_contact_of_rings=_call(
             f"i_shape_first_contact_of_rings_i{bits}", ctypes.c_int32,
             *array * 3),
+        contacts=_call(f"i_shape_contacts_i{bits}", ctypes.c_ssize_t,
+                       *array * 2),
+        contacts_of_rings=_call(f"i_shape_contacts_of_rings_i{bits}",
+                                ctypes.c_ssize_t, *array * 3),
+        kinds_of_contacts=_call(f"i_shape_kinds_of_contacts_i{bits}",
+                                ctypes.c_int32, *array * 2),
         validity_shapes=_call(f"i_shape_validity_shapes_i{bits}",
                               ctypes.c_int32, *array * 4),
         area_two=_call(f"i_shape_area_two_i{bits}", ctypes.c_bool, *array,
@@ -196,21 +205,27 @@ def _as_it_lies(array: Array) -> bool:
     return array.flags.c_contiguous and array.flags.aligned
 
 
-def as_points(points: Any) -> Array:
-    """The points, without a copy where they lie as the library reads."""
-    if isinstance(points, np.ma.MaskedArray):
-        raise TypeError("points are a masked array: fill it first")
-    array: Array = np.asarray(points)
-    if not array.size and not isinstance(points, np.ndarray):
+def as_pairs(pairs: Any, name: str = "points") -> Array:
+    """The pairs of numbers, without a copy where they lie as the library
+    reads."""
+    if isinstance(pairs, np.ma.MaskedArray):
+        raise TypeError(f"{name} are a masked array: fill it first")
+    array: Array = np.asarray(pairs)
+    if not array.size and not isinstance(pairs, np.ndarray):
         array = np.empty((0, 2), np.int64)  # of no number numpy makes floats
     dtype = array.dtype
     if dtype.kind != "i" or not dtype.isnative or dtype.itemsize not in CALLS:
         raise TypeError(
-            f"points have dtype {dtype.str if dtype.kind in 'iu' else dtype},"
+            f"{name} have dtype {dtype.str if dtype.kind in 'iu' else dtype},"
             " not int16, int32 or int64 in native byte order")
     if array.ndim != 2 or array.shape[1] != 2:
-        raise ValueError(f"points have shape {array.shape}, not (n, 2)")
+        raise ValueError(f"{name} have shape {array.shape}, not (n, 2)")
     return array if _as_it_lies(array) else array.copy(order="C")
+
+
+def as_points(points: Any) -> Array:
+    """The points, without a copy where they lie as the library reads."""
+    return as_pairs(points)
 
 
 def as_offsets(offsets: Any, name: str = "offsets") -> Array:

@@ -87,7 +87,7 @@ def _are_many(contours: Any) -> bool:
     return np.ndim(points) == 2 or np.size(points) == 0
 
 
-def _given(contours: Any) -> GivenRings:
+def given_contours(contours: Any) -> GivenRings:
     """The contour, or the contours, tested."""
     if _are_many(contours):
         return given_rings(*contours)
@@ -131,7 +131,7 @@ def _ask_of(name: str, given: GivenRings, divided: Sequence[Array],
 def _ask(name: str, contours: Any, about: Any, rule: Sequence[int],
          dtype: Any, threads: int) -> Any:
     """The same of contours and points that aren't tested."""
-    given = _given(contours)
+    given = given_contours(contours)
     about = _as_about(about, given.points)
     return _ask_of(name, given, (), about, rule, dtype, threads)
 
