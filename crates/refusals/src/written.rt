@@ -1,6 +1,7 @@
 //! The cleaners that write what is left of a contour into a slice.
 
 ghost use Rattle.std.specs.Prelude.{◌≤◌, length};
+ghost use Rattle.std.specs.Int.{w32};
 ghost use Rattle.std.specs.List.{All};
 ghost use Rattle.i_shape.specs.IntPoint.{contour_of, IsSafe};
 
@@ -11,6 +12,7 @@ use i_shape::int::cleaner::{Canonicalizer, ContourCleaner, SpikeRemover, Unorien
 use i_shape::int::despike::ContourDeSpiker;
 use i_shape::int::simple::ContourSimplifier;
 use i_shape::{IntNumber, ShapeError};
+use std::alloc::Global;
 use std::process::Abort;
 
 /// These points. The test stops where one isn't safe, and where they are more than six.
@@ -28,15 +30,46 @@ fn room() -> Result<[IntPoint<i32>; 6], ShapeError> {
     Ok([IntPoint { x: 9, y: 9 }; 6])
 }
 
+/// A call of a new cleaner, by its name, and a second one of another new cleaner.
+fn writes_anew<C: ContourCleaner>(
+    rt: &(impl Abort + Print),
+    name: &str,
+    alloc: Global,
+    points: &[IntPoint<i32>],
+)
+    requires points_safe { All (IsSafe w32) (contour_of (λ z. z) points.now) }
+    requires room { length points.now ≤ 6 }
+{
+    on!(rt, room(), name, out => C::new(alloc).try_clean_into(points, &mut out));
+}
+
+/// Two calls of the cleaner, by their name.
+fn writes<C: ContourCleaner>(
+    rt: &(impl Abort + Print),
+    name: &str,
+    cleaner: &mut C,
+    points: &[IntPoint<i32>],
+)
+    requires points_safe { All (IsSafe w32) (contour_of (λ z. z) points.now) }
+    requires room { length points.now ≤ 6 }
+{
+    on!(rt, room(), name, out => cleaner.try_clean_into(points, &mut out));
+}
+
 #[test]
 fn by_a_new_cleaner(rt: HostRuntime) {
     let alloc = rt.alloc();
     let (spiked, turned) = (few(&rt, SPIKED.as_slice()), few(&rt, TURNED.as_slice()));
-    on!(rt, room(), "ContourSimplifier::try_clean_into", out => ContourSimplifier::new(alloc).try_clean_into(spiked, &mut out));
-    on!(rt, room(), "Canonicalizer::try_clean_into", out => Canonicalizer::new(alloc).try_clean_into(turned, &mut out));
-    on!(rt, room(), "UnorientedCanonicalizer::try_clean_into", out => UnorientedCanonicalizer::new(alloc).try_clean_into(spiked, &mut out));
-    on!(rt, room(), "SpikeRemover::try_clean_into", out => SpikeRemover::new(alloc).try_clean_into(spiked, &mut out));
-    on!(rt, room(), "ContourDeSpiker::try_clean_into", out => ContourDeSpiker::new(alloc).try_clean_into(spiked, &mut out));
+    writes_anew::<ContourSimplifier>(&rt, "ContourSimplifier::try_clean_into", alloc, spiked);
+    writes_anew::<Canonicalizer>(&rt, "Canonicalizer::try_clean_into", alloc, turned);
+    writes_anew::<UnorientedCanonicalizer>(
+        &rt,
+        "UnorientedCanonicalizer::try_clean_into",
+        alloc,
+        spiked,
+    );
+    writes_anew::<SpikeRemover>(&rt, "SpikeRemover::try_clean_into", alloc, spiked);
+    writes_anew::<ContourDeSpiker>(&rt, "ContourDeSpiker::try_clean_into", alloc, spiked);
 }
 
 /// There is no second call where the first is refused: it would take the memory that the first one lacked.
@@ -46,15 +79,30 @@ fn by_a_used_cleaner(rt: HostRuntime) {
     let spiked = few(&rt, SPIKED.as_slice());
     let mut simplifier = ContourSimplifier::new(rt.alloc());
     if simplifier.try_clean_into(spiked, &mut out).is_ok() {
-        on!(rt, room(), "ContourSimplifier::try_clean_into of a second contour", out => simplifier.try_clean_into(spiked, &mut out));
+        writes(
+            &rt,
+            "ContourSimplifier::try_clean_into of a second contour",
+            &mut simplifier,
+            spiked,
+        );
     }
     let mut canonicalizer = Canonicalizer::new(rt.alloc());
     if canonicalizer.try_clean_into(spiked, &mut out).is_ok() {
-        on!(rt, room(), "Canonicalizer::try_clean_into of a second contour", out => canonicalizer.try_clean_into(spiked, &mut out));
+        writes(
+            &rt,
+            "Canonicalizer::try_clean_into of a second contour",
+            &mut canonicalizer,
+            spiked,
+        );
     }
     let mut despiker = ContourDeSpiker::new(rt.alloc());
     if despiker.try_clean_into(spiked, &mut out).is_ok() {
-        on!(rt, room(), "ContourDeSpiker::try_clean_into of a second contour", out => despiker.try_clean_into(spiked, &mut out));
+        writes(
+            &rt,
+            "ContourDeSpiker::try_clean_into of a second contour",
+            &mut despiker,
+            spiked,
+        );
     }
 }
 
@@ -64,15 +112,40 @@ fn with_room(rt: HostRuntime) {
     let (four, six) = (few(&rt, &SPIKED[..4]), few(&rt, SPIKED.as_slice()));
     let mut simplifier = ContourSimplifier::new(rt.alloc());
     call!(rt, "ContourSimplifier::reserve" => simplifier.reserve(6));
-    on!(rt, room(), "ContourSimplifier::try_clean_into of four points with room", out => simplifier.try_clean_into(four, &mut out));
-    on!(rt, room(), "ContourSimplifier::try_clean_into of six points with room", out => simplifier.try_clean_into(six, &mut out));
+    writes(
+        &rt,
+        "ContourSimplifier::try_clean_into of four points with room",
+        &mut simplifier,
+        four,
+    );
+    writes(
+        &rt,
+        "ContourSimplifier::try_clean_into of six points with room",
+        &mut simplifier,
+        six,
+    );
     let mut canonicalizer = Canonicalizer::new(rt.alloc());
     call!(rt, "Canonicalizer::reserve" => canonicalizer.reserve(6));
-    on!(rt, room(), "Canonicalizer::try_clean_into with room", out => canonicalizer.try_clean_into(six, &mut out));
+    writes(
+        &rt,
+        "Canonicalizer::try_clean_into with room",
+        &mut canonicalizer,
+        six,
+    );
     let mut despiker = ContourDeSpiker::new(rt.alloc());
     call!(rt, "ContourDeSpiker::reserve" => despiker.reserve(6));
-    on!(rt, room(), "ContourDeSpiker::try_clean_into of four points with room", out => despiker.try_clean_into(four, &mut out));
-    on!(rt, room(), "ContourDeSpiker::try_clean_into of six points with room", out => despiker.try_clean_into(six, &mut out));
+    writes(
+        &rt,
+        "ContourDeSpiker::try_clean_into of four points with room",
+        &mut despiker,
+        four,
+    );
+    writes(
+        &rt,
+        "ContourDeSpiker::try_clean_into of six points with room",
+        &mut despiker,
+        six,
+    );
 }
 
 #[test]
@@ -86,12 +159,52 @@ fn without_memory(rt: HostRuntime) {
         few(&rt, &SQUARE[..2]),
         few(&rt, FLAT.as_slice()),
     );
-    on!(rt, room(), "ContourSimplifier::try_clean_into of a clean contour", out => simplifier.try_clean_into(clean, &mut out));
-    on!(rt, room(), "Canonicalizer::try_clean_into of a clean contour", out => canonicalizer.try_clean_into(clean, &mut out));
-    on!(rt, room(), "ContourDeSpiker::try_clean_into of a clean contour", out => despiker.try_clean_into(clean, &mut out));
-    on!(rt, room(), "ContourSimplifier::try_clean_into below three points", out => simplifier.try_clean_into(two, &mut out));
-    on!(rt, room(), "Canonicalizer::try_clean_into below three points", out => canonicalizer.try_clean_into(two, &mut out));
-    on!(rt, room(), "UnorientedCanonicalizer::try_clean_into below three points", out => unoriented.try_clean_into(two, &mut out));
-    on!(rt, room(), "ContourDeSpiker::try_clean_into below three points", out => despiker.try_clean_into(two, &mut out));
-    on!(rt, room(), "ContourDeSpiker::try_clean_into of three points that collapse", out => despiker.try_clean_into(flat, &mut out));
+    writes(
+        &rt,
+        "ContourSimplifier::try_clean_into of a clean contour",
+        &mut simplifier,
+        clean,
+    );
+    writes(
+        &rt,
+        "Canonicalizer::try_clean_into of a clean contour",
+        &mut canonicalizer,
+        clean,
+    );
+    writes(
+        &rt,
+        "ContourDeSpiker::try_clean_into of a clean contour",
+        &mut despiker,
+        clean,
+    );
+    writes(
+        &rt,
+        "ContourSimplifier::try_clean_into below three points",
+        &mut simplifier,
+        two,
+    );
+    writes(
+        &rt,
+        "Canonicalizer::try_clean_into below three points",
+        &mut canonicalizer,
+        two,
+    );
+    writes(
+        &rt,
+        "UnorientedCanonicalizer::try_clean_into below three points",
+        &mut unoriented,
+        two,
+    );
+    writes(
+        &rt,
+        "ContourDeSpiker::try_clean_into below three points",
+        &mut despiker,
+        two,
+    );
+    writes(
+        &rt,
+        "ContourDeSpiker::try_clean_into of three points that collapse",
+        &mut despiker,
+        flat,
+    );
 }
