@@ -35,12 +35,13 @@ def read(path: str, *names: str) -> list[np.ndarray]:
                      np.int64) for name in names]
 
 
-def rings(path: str) -> list[np.ndarray]:
-    """The shorelines of a file, each without its first point at the end."""
+def shores(path: str) -> list[tuple[int, np.ndarray]]:
+    """The shorelines of a file, each without its first point at the end, and
+    after the number that it has in the file."""
     columns, rows = (int(number[0]) for number in read(
         path, "N_bins_in_360_longitude_range",
         "N_bins_in_180_degree_latitude_range"))
-    counts, firsts, shores, parts, x, y = read(
+    counts, firsts, numbers, parts, x, y = read(
         path, "Embedded_npts_levels_exit_entry_for_a_segment",
         "Id_of_first_point_in_a_segment", "Id_of_GSHHS_ID",
         "N_segments_in_a_bin", "Relative_longitude_from_SW_corner_of_bin",
@@ -48,12 +49,13 @@ def rings(path: str) -> list[np.ndarray]:
     bins = np.repeat(np.arange(len(parts)), parts)
     around = columns * SIDE
     whole, begins = [], {}
-    for place, first, count, shore in zip(bins, firsts, counts >> 9, shores):
+    for place, first, count, shore in zip(bins, firsts, counts >> 9,
+                                          numbers.tolist()):
         row, column = divmod(int(place), columns)
         part = np.stack([x[first:first + count], y[first:first + count]], 1)
         part = (part & 0xFFFF) + [column * SIDE, (rows - 1 - row) * SIDE]
         if (part[0] == part[-1]).all():
-            whole.append(part[:-1])
+            whole.append((shore, part[:-1]))
         else:
             begins[shore, part[0, 0] % around, part[0, 1]] = part
     while begins:
@@ -66,8 +68,13 @@ def rings(path: str) -> list[np.ndarray]:
             part = part + [end[0] - part[0, 0], 0]
             joined.append(part[:-1])
             end = part[-1]
-        whole.append(np.concatenate(joined))
+        whole.append((shore, np.concatenate(joined)))
     return whole
+
+
+def rings(path: str) -> list[np.ndarray]:
+    """The shorelines of a file, in no certain order."""
+    return [ring for _, ring in shores(path)]
 
 
 def best(call, times: int = 7):
