@@ -1,5 +1,5 @@
 -- Segments that cross or overlap share a point.
-use Rattle.std.proofs.Common.{◌≡◌, ℤ, pos, ◌+ℤ◌, ◌≤ℤ◌, ◌<ℤ◌, ◌⊎◌, inl, inr, arith}
+use Rattle.std.proofs.Common.{◌≡◌, ℤ, pos, ◌+ℤ◌, ◌≤ℤ◌, ◌<ℤ◌, inl, inr, arith}
 use Rattle.std.proofs.lemmas.Int.{ints}
 use Rattle.i_shape.specs.Point.{Point, cross}
 use Rattle.i_shape_contacts.specs.Kinds.{LieOnBothSides, DoCross, DoOverlap}

@@ -1,9 +1,6 @@
 -- A polygon's own offsets, rebased to 0, and its first fault among those of many polygons.
-use Rattle.std.proofs.Common.{◌≡◌, ◌∙◌, All, ℕ, ◌+◌, ◌-◌, ◌<◌, ◌≤◌, List, [], ◌∷◌, ◌++◌, length, take, set, slice_range, refl, ap, ap₂, sym, subst, subst₂, arith}
-use Rattle.std.specs.List.{AllZip, range_with_len}
-use Rattle.std.proofs.lemmas.List.{get_or-map, length-map, take_all, take_more, take_more_set, map-id}
-use Rattle.std.proofs.lemmas.List.FromFn.{map-range_with_len_more}
-use Rattle.std.proofs.lemmas.Slice.Zip.{all_zipped_more}
+use Rattle.std.proofs.Common.{◌≡◌, ◌∙◌, All, ℕ, ◌+◌, ◌-◌, ◌<◌, ◌≤◌, List, [], ◌∷◌, ◌++◌, length, take, set, slice_range, refl, ap, ap₂, sym, subst₂, arith}
+use Rattle.std.proofs.lemmas.List.{get_or-map, length-map, take_all, take_more, take_more_set}
 use Rattle.i_shape.specs.Point.{Point}
 use Rattle.i_shape_core.proofs.Lists.Rings.{rises_to}
 use Rattle.i_shape_contacts.specs.Courses.{DividesPoints}
@@ -11,7 +8,6 @@ use Rattle.i_shape_contacts.specs.Validity.{IsFirstFault}
 use Rattle.i_shape_contacts.specs.declared.validity.Validity.{Validity}
 use Rattle.i_shape_c.specs.Batch.{offset, PartsPoints}
 use Rattle.i_shape_c.specs.Validity.{rebased, points_between, placed, IsFaultOf}
-use Rattle.i_shape_c.specs.declared.validity.Fault.{Fault}
 use Rattle.i_shape_c.proofs.Appended.{parted_part, offset_part, length_part}
 use Rattle.i_shape_c.proofs.Batches.{all_part}
 

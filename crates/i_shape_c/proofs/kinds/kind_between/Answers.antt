@@ -1,4 +1,4 @@
-use Rattle.std.proofs.Common.{◌≡◌, IsTrue, refl}
+use Rattle.std.proofs.Common.{IsTrue, refl}
 use Rattle.i_shape.specs.IntPoint.{point_of}
 use Rattle.i_shape_contacts.specs.Meeting.{Meet}
 use Rattle.i_shape_c.proofs.Crossing.{cross_meets, overlap_meets}

@@ -1,4 +1,4 @@
-use Rattle.std.proofs.Common.{◌≡◌, ◌+◌, ◌<◌, map, length, refl, arith}
+use Rattle.std.proofs.Common.{◌+◌, ◌<◌, map, length, refl, arith}
 use Rattle.i_shape.specs.IntPoint.{point_of}
 use Rattle.i_shape_core.proofs.Lists.Rings.{back_more}
 use Rattle.i_shape_c.specs.Kinds.{IsKindOfPair}
