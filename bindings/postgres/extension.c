@@ -100,8 +100,9 @@ static Geometry cleaned(Cleaner *cleaner, const Geometry *given) {
 }
 
 static Geometry canonical(bool oriented, const Geometry *given) {
-    Geometry form = cleaned(oriented ? i_shape_canonical_i64 : i_shape_canonical_unoriented_i64, given);
-    sort_polygons(&form);
+    Geometry form = {.counts = given->counts};
+    use_block(&form, MemoryContextAllocHuge(CurrentMemoryContext, form_block_size(form.counts)));
+    if (!make_form(given, oriented, let_interrupt, &form)) raise_no_memory();
     return form;
 }
 

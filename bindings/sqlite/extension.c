@@ -150,8 +150,9 @@ static Geometry cleaned(Call *call, const Given *given, Cleaner *cleaner) {
 }
 
 static Geometry canonical(Call *call, const Given *given, bool oriented) {
-    Geometry form = cleaned(call, given, oriented ? i_shape_canonical_i64 : i_shape_canonical_unoriented_i64);
-    sort_polygons(&form);
+    Geometry form = {.counts = given->geometry.counts};
+    use_block(&form, take(call, form_block_size(form.counts)));
+    if (!make_form(&given->geometry, oriented, pause_of(call), &form)) end_call(call, SQLITE_NOMEM);
     return form;
 }
 

@@ -109,8 +109,11 @@ typedef ptrdiff_t Cleaner(const i_shape_point_i64 *points, size_t count, i_shape
 /* What is left of the rings, without those that collapse and the polygons whose outer ring does, in arrays that hold as many
  * as given. It is false where an allocation failed. */
 bool clean_polygons(Cleaner *cleaner, const Geometry *given, Pause pause, Geometry *left);
-/* The holes of each polygon by their points, and then the polygons ring by ring. */
-void sort_polygons(Geometry *geometry);
+/* The bytes of a block that use_block divides for a form of as many points, rings and polygons, and behind them the offsets that make_form needs. */
+size_t form_block_size(Counts counts);
+/* The canonical form of the polygons, or the unoriented one, in such a block for the counts of what is given, by one call of the C library. It is false where an
+ * allocation failed. */
+bool make_form(const Geometry *given, bool oriented, Pause pause, Geometry *form);
 
 size_t key_size(const Geometry *form);
 void write_key(const Geometry *form, Pause pause, void *to);

@@ -1,4 +1,4 @@
-/* COUNT mutated WKBs of random polygons, and a quarter as many as they are, through the reader, the cleaners, the order of forms and the writers, each block as
+/* COUNT mutated WKBs of random polygons, and a quarter as many as they are, through the reader, the cleaners, the forms and the writers, each block as
  * long as what it holds, for the address sanitizer. What is returned is compared with the calls of the C library on polygons, and with itself when it is read
  * again. Then each growth of the C library fails in turn, and pauses are counted. usage: fuzz COUNT */
 #include "tests/random_wkb.h"
@@ -98,9 +98,15 @@ static void check_written(const Geometry *left, Grid grid) {
     free(twice.points);
 }
 
+static void take_form_block(Geometry *form, Counts counts) {
+    form->counts = counts;
+    use_block(form, block_of(form_block_size(counts)));
+}
+
 static Geometry form_of(const Geometry *given, bool oriented) {
-    Geometry form = cleaned(oriented ? i_shape_canonical_i64 : i_shape_canonical_unoriented_i64, given);
-    sort_polygons(&form);
+    Geometry form;
+    take_form_block(&form, given->counts);
+    must(make_form(given, oriented, no_pause, &form), "no memory");
     return form;
 }
 
@@ -206,22 +212,42 @@ static FaultKind check_bytes(void) {
     return kind;
 }
 
-/* Each growth of a cleaner over several polygons, failing, is reported, and leaves no block. It returns how many there were. */
-static size_t check_failed_growths(Cleaner *cleaner) {
+/* ---- what is left of polygons, and the memory that it takes ---- */
+
+typedef bool Make(const Geometry *given, Geometry *left);
+
+static bool make_simplified(const Geometry *given, Geometry *left) {
+    return clean_polygons(i_shape_simplify_i64, given, no_pause, left);
+}
+
+static bool make_despiked(const Geometry *given, Geometry *left) {
+    return clean_polygons(i_shape_despike_i64, given, no_pause, left);
+}
+
+static bool make_canonical(const Geometry *given, Geometry *left) {
+    return make_form(given, true, no_pause, left);
+}
+
+static bool make_unoriented(const Geometry *given, Geometry *left) {
+    return make_form(given, false, no_pause, left);
+}
+
+/* Each growth over several polygons, failing, is reported, and leaves no block. It returns how many there were. */
+static size_t check_failed_growths(Make *make) {
     Block wkb = {bytes, 0};
     Geometry given, left;
     Grid grid;
     make_grid(1, &grid);
     do make_wkb();
     while (wkb.size = length, length < 1000 || read_block(wkb, grid, &given) != FINE);
-    take_block(&left, given.counts);
+    take_form_block(&left, given.counts);
     growths = failing = 0;
-    must(clean_polygons(cleaner, &given, no_pause, &left), "no memory");
+    must(make(&given, &left), "no memory");
     size_t all = growths;
     for (size_t k = 1; k <= all; k++) {
         growths = 0;
         failing = k;
-        must(!clean_polygons(cleaner, &given, no_pause, &left), "a growth that fails is not reported");
+        must(!make(&given, &left), "a growth that fails is not reported");
         must(blocks == 0, "a block is left");
     }
     failing = 0;
@@ -276,8 +302,8 @@ static void check_pauses(void) {
     take_block(&again, counts);
     must(read_wkb(wkb.at, wkb.size, grid, count_pause, &again).kind == FINE, "what is written isn't read");
     must_have_paused(4);
-    take_block(&form, counts);
-    must(clean_polygons(i_shape_canonical_i64, &again, count_pause, &form), "no memory");
+    take_form_block(&form, counts);
+    must(make_form(&again, true, count_pause, &form), "no memory");
     must_have_paused(1);
     void *key = block_of(key_size(&form));
     write_key(&form, count_pause, key);
@@ -311,10 +337,10 @@ int main(int count, char **words) {
         kinds[check_bytes()]++;
         must(blocks == 0, "a block is left");
     }
-    Cleaner *const cleaners[] = {i_shape_simplify_i64, i_shape_despike_i64, i_shape_canonical_i64, i_shape_canonical_unoriented_i64};
+    Make *const makes[] = {make_simplified, make_despiked, make_canonical, make_unoriented};
     for (int k = 0; k < 4; k++) {
         size_t all = 0;
-        for (int times = 0; times < 20; times++) all += check_failed_growths(cleaners[k]);
+        for (int times = 0; times < 20; times++) all += check_failed_growths(makes[k]);
         must(all > 20, "it takes no memory");
     }
     check_pauses();
