@@ -12,15 +12,14 @@ import numpy as np
 import numpy.typing as npt
 
 from ._library import Array
-from ._polygons import given_polygons, which_left
-from ._rings import Rings, canonical_cleaner, canonical_rings, clean_rings
+from ._polygons import form_each, given_polygons, left_polygons, which_left
+from ._rings import Rings, canonical_cleaner, canonical_rings
 
 Int = TypeVar("Int", np.int16, np.int32, np.int64)
 Pair = Union[Rings, Tuple[npt.NDArray[Any], npt.ArrayLike]]
 
 _WORD = np.dtype("<i8")
 _OF_POLYGON = 1 << 62  # what no safe coordinate is
-_LEAST = np.int64(-1 << 63)
 _BLOCK = 1 << 16  # rings, or polygons
 
 
@@ -39,57 +38,27 @@ def _keys_of_rings(forms: Rings) -> Iterator[bytes]:
         yield from _cut(points.astype(_WORD), 2 * (ends - ends[0]))
 
 
-def _picked(points: Array, offsets: Array, rings: Array) -> Rings:
-    """These of the rings, in this order."""
-    starts, sizes = offsets[rings], np.diff(offsets)[rings]
-    ends = np.zeros(len(rings) + 1, np.int64)
-    np.cumsum(sizes, out=ends[1:])
-    rows = np.arange(ends[-1]) + np.repeat(starts - ends[:-1], sizes)
-    return Rings(points[rows], ends)
-
-
-def _sort_holes(forms: Rings, rings: Array, firsts: Array,
-                counts: Array) -> None:
-    """Put the holes of each polygon in the order of their forms.
-
-    ``rings`` are those of the polygons, end to end: polygon k has
-    ``counts[k]`` of them from the place ``firsts[k]`` on.
-    """
-    several = np.flatnonzero(counts > 2)
-    if not len(several):
-        return
-    # Of numbers from 0 on, the high byte first, the bytes are ordered as the
-    # points are.
-    ordered = (forms.points.astype(np.int64) ^ _LEAST).byteswap()
-    keys = list(_keys_of_rings(Rings(ordered, forms.offsets)))
-    for first, count in zip(firsts[several].tolist(),
-                            counts[several].tolist()):
-        holes = rings[first + 1:first + count]
-        holes[:] = sorted(holes.tolist(), key=keys.__getitem__)
-
-
 def _keys_of_forms(forms: Rings, parts: Array) -> list[bytes]:
-    """The keys of polygons whose rings have these forms."""
-    rings, polygons, firsts = which_left(forms.offsets, parts)
+    """The keys of polygons of these forms, of which some rings are empty."""
+    left = which_left(forms.offsets, parts)
+    points, offsets, firsts = left_polygons(forms, left)
     counts = np.diff(firsts)
-    _sort_holes(forms, rings, firsts[:-1], counts)
-    points, offsets = _picked(*forms, rings)
     # Each polygon that is left begins with its word, and each ring with one.
     starts = np.arange(len(firsts)) + firsts + 2 * offsets[firsts]
     ring_words = (np.repeat(np.arange(1, len(firsts)), counts)
-                  + np.arange(len(rings)) + 2 * offsets[:-1])
+                  + np.arange(len(offsets) - 1) + 2 * offsets[:-1])
     words = np.empty(int(starts[-1]), _WORD)
     is_point = np.ones(len(words), np.bool_)
     is_point[starts[:-1]] = is_point[ring_words] = False
     words[starts[:-1]] = counts + _OF_POLYGON
     words[ring_words] = np.diff(offsets)
     words[is_point] = points.ravel()
-    return _cut(words, starts[np.searchsorted(polygons,
+    return _cut(words, starts[np.searchsorted(left.polygons,
                                               np.arange(len(parts)))])
 
 
 def keys_of_polygons(forms: Rings, polygon_offsets: Array) -> list[bytes]:
-    """The keys of polygons, by the forms of their rings."""
+    """The keys of polygons, by the rings of their forms."""
     keys: list[bytes] = []
     # One block after another takes less memory.
     for start in range(0, len(polygon_offsets) - 1, _BLOCK):
@@ -132,8 +101,9 @@ def canonical_keys(points: npt.NDArray[Int], ring_offsets: npt.ArrayLike,
         same word, and as here false by default, that ``i_shape_key`` in
         PostgreSQL has.
     threads : int
-        How many threads make the forms of a part of the rings each, at most
-        as many as there are processors. The answer is the same.
+        How many threads make the forms of a part of the rings, or of the
+        polygons, each, at most as many as there are processors. The answer
+        is the same.
 
     Returns
     -------
@@ -172,7 +142,7 @@ def canonical_keys(points: npt.NDArray[Int], ring_offsets: npt.ArrayLike,
             points, ring_offsets, threads=threads, oriented=oriented)))
     else:
         given = given_polygons(points, ring_offsets, polygon_offsets)
-        forms = clean_rings(canonical_cleaner(oriented), given.rings, threads)
+        forms = form_each(canonical_cleaner(oriented), given, threads)
         keys = keys_of_polygons(forms, given.parts)
     return as_objects(keys)
 

@@ -88,6 +88,7 @@ class Calls(NamedTuple):
     one: dict[str, Any]
     many: dict[str, Any]
     polygons: dict[str, Any]
+    forms: dict[str, Any]
     test: dict[str, Any]
     test_many: dict[str, Any]
     first_unsafe: Any
@@ -128,6 +129,9 @@ def _calls(bits: int, number: Any, area: Any) -> Calls:
         polygons={name: _call(f"i_shape_{name}_shapes_i{bits}",
                               ctypes.c_ssize_t, *array * 6)
                   for name in cleaners},
+        forms={name: _call(f"i_shape_{name}_polygons_i{bits}",
+                           ctypes.c_ssize_t, *array * 5)
+               for name in ("canonical", "canonical_unoriented")},
         test={name: _call(f"i_shape_{name}_i{bits}", ctypes.c_int32, *array)
               for name in (*tests, "is_simple_polygon")},
         test_many={name: _call(f"i_shape_{many}_i{bits}", ctypes.c_int32,

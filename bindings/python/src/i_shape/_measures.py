@@ -26,7 +26,7 @@ def _measure_rings(call: Any, given: GivenRings, item: Any,
     """What a call writes of each ring."""
     points, offsets, _ = given
     parts = as_parts(threads, len(offsets) - 1)
-    cuts = [0, len(offsets) - 1] if parts == 1 else equal_cuts(offsets, parts)
+    cuts = equal_cuts(offsets, parts)
     out = np.empty(len(offsets) - 1, item)
 
     def measure(part: int) -> int:

@@ -13,8 +13,8 @@ import numpy.typing as npt
 
 from ._library import (CALLS, COMPACT_SHAPES, Array, as_offsets, as_parts,
                        as_points, as_threads, check_offsets, run_parts, words)
-from ._rings import (GivenRings, Rings, canonical_cleaner, clean_rings,
-                     raise_codes)
+from ._rings import (GivenRings, Rings, canonical_cleaner, clean_parts,
+                     clean_rings, equal_cuts, raise_codes)
 
 Int = TypeVar("Int", np.int16, np.int32, np.int64)
 
@@ -133,6 +133,19 @@ def clean_whole(cleaner: str, given: GivenPolygons) -> Polygons:
     _shrink(left.ring_offsets, int(left.polygon_offsets[-1]) + 1)
     _shrink(left.points, int(left.ring_offsets[-1]))
     return left
+
+
+def form_each(cleaner: str, given: GivenPolygons, threads: Any) -> Rings:
+    """The rings of the form of each polygon alone.
+
+    One that collapses is empty, and stays in its polygon.
+    """
+    (points, offsets, _), polygons = given
+    cuts = equal_cuts(offsets[polygons], as_parts(threads, len(polygons) - 1))
+    return clean_parts(CALLS[points.itemsize].forms[cleaner], given.rings,
+                       polygons[cuts].tolist(),
+                       [polygons[first:end + 1] - polygons[first]
+                        for first, end in zip(cuts, cuts[1:])])
 
 
 def simplify_polygons(points: npt.NDArray[Int], ring_offsets: npt.ArrayLike,

@@ -3,7 +3,7 @@
 from __future__ import annotations
 
 import ctypes
-from typing import Any, NamedTuple, TypeVar
+from typing import Any, NamedTuple, Sequence, TypeVar
 
 import numpy as np
 import numpy.typing as npt
@@ -11,7 +11,8 @@ import numpy.typing as npt
 from ._errors import UnsafePointError
 from ._library import (CALLS, NO_MEMORY, UNSAFE, Array, address,
                        as_offsets, as_parts, as_points, check_offsets,
-                       first_unsafe, raise_code, run_parts, unsafe_text)
+                       first_unsafe, raise_code, run_parts, unsafe_text,
+                       words)
 
 Int = TypeVar("Int", np.int16, np.int32, np.int64)
 
@@ -51,24 +52,27 @@ def given_rings(points: Any, offsets: Any) -> GivenRings:
     return GivenRings(points, offsets)
 
 
-def _clean_part(call: Any, points: Array, offsets: Array,
-                out: Array) -> tuple[int, Array]:
+def _clean_part(call: Any, points: Array, offsets: Array, out: Array,
+                polygons: Sequence[Array]) -> tuple[int, Array]:
     """Clean the rings of some offsets into ``out``, which has their room.
 
-    It returns how many points are written, or a code, and their offsets.
+    ``polygons`` has the offsets that divide these rings, if the call takes
+    any. It returns how many points are written, or a code, and their
+    offsets.
     """
     start, end = int(offsets[0]), int(offsets[-1])
     points = points[start:end]
     if start:
         offsets = offsets - start
     ends = np.empty(offsets.shape, np.int64)
-    left = call(address(points), len(points), address(offsets), len(offsets),
-                address(out), len(out), address(ends), len(ends))
+    left = call(*words(points, offsets, *polygons, out, ends))
     return left, ends
 
 
 def equal_cuts(offsets: Array, parts: int) -> list[int]:
     """Where to divide the rings: about equal sums of points and rings."""
+    if parts == 1:
+        return [0, len(offsets) - 1]
     work = offsets + np.arange(len(offsets))
     whole = int(work[-1]) - int(work[0])
     goals = [int(work[0]) + whole * part // parts for part in range(1, parts)]
@@ -94,26 +98,29 @@ def raise_codes(codes: list[int], given: GivenRings) -> None:
         raise_code(NO_MEMORY, points)
 
 
-def clean_rings(cleaner: str, given: GivenRings, threads: Any) -> Rings:
-    """Clean each ring."""
+def clean_parts(call: Any, given: GivenRings, cuts: list[int],
+                polygons: Sequence[Array] = ()) -> Rings:
+    """Clean the rings, those from one cut to the next in a thread each.
+
+    ``polygons`` has for each part the offsets that divide its rings, if the
+    call takes any.
+    """
     points, offsets, _ = given
-    parts = as_parts(threads, len(offsets) - 1)
     start, end = int(offsets[0]), int(offsets[-1])
-    call = CALLS[points.itemsize].many[cleaner]
     out = np.empty((end - start, 2), points.dtype)
-    if parts == 1:
-        total, ends = _clean_part(call, points, offsets, out)
+    if len(cuts) == 2:
+        total, ends = _clean_part(call, points, offsets, out, polygons)
         raise_codes([total], given)
     else:
-        cuts = equal_cuts(offsets, parts)
         starts = (offsets[cuts] - start).tolist()
 
         def clean_part(part: int) -> tuple[int, Array]:
             return _clean_part(call, points,
                                offsets[cuts[part]:cuts[part + 1] + 1],
-                               out[starts[part]:starts[part + 1]])
+                               out[starts[part]:starts[part + 1]],
+                               polygons[part:part + 1])
 
-        answers = run_parts(clean_part, parts)
+        answers = run_parts(clean_part, len(cuts) - 1)
         raise_codes([left for left, _ in answers], given)
         # What the parts have left is moved together, from the front on.
         ends = np.empty(offsets.shape, np.int64)
@@ -127,6 +134,13 @@ def clean_rings(cleaner: str, given: GivenRings, threads: Any) -> Rings:
             total += left
     out.resize((total, 2), refcheck=False)  # it gives back what isn't used
     return Rings(out, ends)
+
+
+def clean_rings(cleaner: str, given: GivenRings, threads: Any) -> Rings:
+    """Clean each ring."""
+    parts = as_parts(threads, len(given.offsets) - 1)
+    return clean_parts(CALLS[given.points.itemsize].many[cleaner], given,
+                       equal_cuts(given.offsets, parts))
 
 
 def canonical_cleaner(oriented: bool) -> str:
