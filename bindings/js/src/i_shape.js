@@ -111,11 +111,9 @@ function cut(items, polygons) {
     return Array.from(polygons.subarray(1), (end, k) => items.slice(polygons[k], end));
 }
 
-/** The key of a polygon by those of its rings, of which the outer one comes first. */
-function keyOfPolygon([outer, ...holes]) {
-    if (outer === "") return "";
-    const left = outer === undefined ? [] : [outer, ...holes.filter((hole) => hole !== "").sort()];
-    return `${left.join(";")};`;
+/** The key of a polygon by those of the rings of its form, of which the outer one comes first. */
+function keyOfPolygon(keys) {
+    return keys[0] === "" ? "" : `${keys.filter((key) => key !== "").join(";")};`;
 }
 
 class IShape {
@@ -300,7 +298,8 @@ class IShape {
     canonicalKeys(points, ringOffsets, polygonOffsets, options = {}) {
         const { oriented = false } = checkedOptions("canonicalKeys", options, ["oriented"]);
         const polygons = polygonOffsets && asOffsets(polygonOffsets, "polygonOffsets");
-        const forms = this.#cleanRings(oriented ? "canonical_contours" : "canonical_unoriented_contours", points, ringOffsets, polygons);
+        const cleaner = oriented ? "canonical" : "canonical_unoriented";
+        const forms = this.#cleanRings(`${cleaner}_${polygons ? "polygons" : "contours"}`, points, ringOffsets, polygons);
         const ends = forms.offsets;
         const keys = Array.from({ length: ends.length - 1 }, (_, k) => forms.points.subarray(2 * ends[k], 2 * ends[k + 1]).join(" "));
         return polygons ? cut(keys, polygons).map(keyOfPolygon) : keys;
@@ -514,7 +513,7 @@ class IShape {
             const out = loan.take(byteLengthOf(points));
             const { length } = given.offsets[0];
             const outOffsets = loan.take(4 * length);
-            const left = this.#answered(this.#call(name, kind)(...given.ringWords, out, countOf(points), outOffsets, length), given);
+            const left = this.#answered(this.#call(name, kind)(...given.words, out, countOf(points), outOffsets, length), given);
             return { points: loan.read(kind.Points, out, 2 * left), offsets: loan.read(Uint32Array, outOffsets, length) };
         });
     }
