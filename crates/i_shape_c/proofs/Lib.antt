@@ -12,6 +12,7 @@ pub mod FormsWritten
 pub mod HolesSorted
 pub mod Windings
 pub mod Told
+pub mod Marked
 pub mod RingsMoved
 pub mod Compacted
 pub mod Faults

@@ -1,5 +1,5 @@
 -- What holds of each contour that offsets delimit.
-use Rattle.std.proofs.Common.{◌≡◌, ◌∙◌, ℕ, ◌+◌, ◌<◌, ◌++◌, List, [], ◌∷◌, map, length, take, set, get_or, slice_range, ap, sym, subst, subst₂, Option, Some, None, arith}
+use Rattle.std.proofs.Common.{◌≡◌, ◌∙◌, zero, suc, ℕ, ◌+◌, ◌<◌, ◌++◌, List, [], ◌∷◌, map, length, take, set, get_or, slice_range, ap, sym, subst, subst₂, Option, Some, None, arith}
 use Rattle.std.specs.List.{AllZip, range_with_len}
 use Rattle.std.proofs.lemmas.List.{map-id, take_more, take_more_set}
 use Rattle.std.proofs.lemmas.List.FromFn.{map-range_with_len_more}
@@ -34,3 +34,31 @@ index_more R out n next told is room before here =
 -- `Some x` isn't `None`
 pub not_none : {X : Type 0} (o : Option X) (x : X) → o ≡ Some x → o ≡ None → ⊥
 not_none o x some none = absurd (cc)
+
+-- what relates two lists relates their items at each index
+pub zip_at : {A B : Type 0} (R : A → B → Type 0) (xs : List A) (ys : List B) → AllZip R xs ys → (k : ℕ) (d : A) (e : B) → k < length xs → R (get_or xs k d) (get_or ys k e)
+zip_at R [] ys all k d e h = absurd (omega arith)
+zip_at R (x ∷ xs) [] all k d e h = absurd all
+zip_at R (x ∷ xs) (y ∷ ys) all zero d e h = all.0
+zip_at R (x ∷ xs) (y ∷ ys) all (suc k) d e h = zip_at R xs ys all.1 k d e (omega (arith, h))
+
+-- what relates the items of two lists of one length at each index relates the lists
+pub zip_of : {A B : Type 0} (R : A → B → Type 0) (xs : List A) (ys : List B) → length ys ≡ length xs → ((k : ℕ) (d : A) (e : B) → k < length xs → R (get_or xs k d) (get_or ys k e)) → AllZip R xs ys
+zip_of R [] [] same at = tt
+zip_of R [] (y ∷ ys) same at = absurd (omega (arith, same))
+zip_of R (x ∷ xs) [] same at = absurd (omega (arith, same))
+zip_of R (x ∷ xs) (y ∷ ys) same at = (at 0 x y (omega arith), zip_of R xs ys (omega (arith, same)) (λ k d e h. at (suc k) d e (omega (arith, h))))
+
+-- what relates a mapped list relates the list, over the function
+pub zip_mapped : {A B C : Type 0} (R : B → C → Type 0) (f : A → B) (xs : List A) (ys : List C) → AllZip R (map f xs) ys → AllZip (λ x. R (f x)) xs ys
+zip_mapped R f [] [] all = tt
+zip_mapped R f [] (y ∷ ys) all = absurd all
+zip_mapped R f (x ∷ xs) [] all = absurd all
+zip_mapped R f (x ∷ xs) (y ∷ ys) all = (all.0, zip_mapped R f xs ys all.1)
+
+-- a relation that follows from another relates what that does
+pub zip_weaker : {A B : Type 0} (R S : A → B → Type 0) (xs : List A) (ys : List B) → ((x : A) (y : B) → R x y → S x y) → AllZip R xs ys → AllZip S xs ys
+zip_weaker R S [] [] weaker all = tt
+zip_weaker R S [] (y ∷ ys) weaker all = absurd all
+zip_weaker R S (x ∷ xs) [] weaker all = absurd all
+zip_weaker R S (x ∷ xs) (y ∷ ys) weaker all = (weaker x y all.0, zip_weaker R S xs ys weaker all.1)

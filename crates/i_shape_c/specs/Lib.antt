@@ -10,6 +10,7 @@ pub mod Formed
 pub mod Tests
 pub mod Areas
 pub mod Windings
+pub mod Marked
 pub mod Measures
 pub mod Locations
 pub mod Contacts

@@ -85,3 +85,14 @@ pub record TellsEach {P X : Type 0} (Gives : FillRule → List P → List ℕ �
   pub answer : TellsAnswer Gives point asked old new result
   pub refuses : Refuses ((rule_of asked.rule ≢ None) × PartsPoints (length asked.points) asked.offsets) (length asked.about ≤ length old)
       (AreSafeContours width point asked.points asked.offsets × AreSafe width point asked.about) (Unit {0}) result
+
+-- `mark` is the result on an edge, and `Tells` relates the contours' total winding number to the result elsewhere
+pub record IsMarkOf {P X : Type 0} (point : P → Point) (Tells : FillRule → ℤ → X → Type 0) (Gives : FillRule → List P → List ℕ → Point → X → Type 0) (mark : X) : Type 0 where
+  pub on : (rule : FillRule) (points : List P) (offsets : List ℕ) (p : Point) → IsOnContours point points offsets p → Gives rule points offsets p mark
+  pub off : (rule : FillRule) (points : List P) (offsets : List ℕ) (p : Point) (x : X) → (IsOnContours point points offsets p → ⊥) → Tells rule (contours_winding point points offsets p) x → Gives rule points offsets p x
+  pub apart : (rule : FillRule) (turns : ℤ) → Tells rule turns mark → ⊥
+
+-- a mark is the result on an edge; without one the result is what `Tells` relates to the winding number everywhere
+abbrev pub Settles : {P X : Type 0} → (P → Point) → (FillRule → ℤ → X → Type 0) → (FillRule → List P → List ℕ → Point → X → Type 0) → Option X → Type 0
+Settles {P} {X} point Tells Gives None = (rule : FillRule) (points : List P) (offsets : List ℕ) (p : Point) (x : X) → Tells rule (contours_winding point points offsets p) x → Gives rule points offsets p x
+Settles point Tells Gives (Some mark) = IsMarkOf point Tells Gives mark

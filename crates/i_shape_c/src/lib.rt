@@ -10,6 +10,7 @@ mod codes;
 mod compact;
 mod contacts;
 mod contour;
+mod edges;
 mod forms;
 mod holders;
 mod kinds;

@@ -1,22 +1,22 @@
 //! The points that contours fill by a fill rule, and the points on their edges, at any width.
 
-ghost use Rattle.std.specs.Prelude.{◌≡◌, ◌≤◌, ◌↔◌, ℕ, List, length, map, IsTrue, IfOk};
-ghost use Rattle.i_shape.specs.IntPoint.{point_of, IsSafe};
+ghost use Rattle.std.specs.Prelude.{◌≡◌, ◌≤◌, ◌↔◌, ℕ, ℤ, pos, List, length, map, take, drop, IsTrue, IfOk};
+ghost use Rattle.std.specs.List.{AllZip};
 ghost use Rattle.i_shape.specs.Point.{Point};
 ghost use Rattle.i_shape.specs.Filling.{IsFilled};
 ghost use Rattle.i_shape_c.specs.Batch.{PartsPoints, AreSafeContours};
 ghost use Rattle.i_shape_c.specs.Cleaned.{AreSafe};
-ghost use Rattle.i_shape_c.specs.Locations.{query, rule_of, IsOnContours, IsFilledByte, IsLocated, AreTold, TellsEach, FillsPoint};
+ghost use Rattle.i_shape_c.specs.Locations.{query, rule_of, IsFilledByte, IsLocation, IsLocated, AreTold, Settles, TellsEach, FillsPoint};
 ghost use Rattle.i_shape_c.specs.Points.{point_by};
+ghost use Rattle.i_shape_c.specs.Tests.{IsTold};
 ghost use Rattle.i_shape_c.specs.Windings.{contours_winding};
 
-use crate::batch::{part, refusal_about};
+use crate::batch::refusal_about;
 use crate::codes::Refusal;
+use crate::edges::mark_edges;
 use crate::point::CPoint;
 use crate::winding::{wind_all, wind_in_batches};
-use i_shape::int::IntPoint;
-use i_shape::{FillRule, IntNumber};
-use i_shape_core::boundary::is_on_boundary;
+use i_shape::FillRule;
 use i_shape_core::safe_range::are_safe;
 use i_shape_core::winding::winding_about;
 use std::alloc::{AllocError, Global};
@@ -30,21 +30,16 @@ pub trait Telling<P: CPoint>: Copy {
     /// Relates contours and a point to the result.
     ghost gives: { FillRule → List P → List ℕ → Point → Self.Answer → Type 0 };
 
-    /// Returns the result for a point about which the contours have the total winding number `turns`.
-    fn tell(
-        rule: FillRule,
-        points: &[P],
-        offsets: &[usize],
-        point: IntPoint<P::Coordinate>,
-        turns: isize,
-    ) -> Self::Answer
-        requires parted { PartsPoints (length points.now) offsets.now }
-        requires points_safe { AreSafeContours P.Coordinate.width
-            (point_by P.Coordinate.value P.point) points.now offsets.now }
-        requires point_safe { IsSafe P.Coordinate.width (point_of P.Coordinate.value point) }
-        requires turns { turns ≡ contours_winding (point_by P.Coordinate.value P.point)
-            points.now offsets.now (point_of P.Coordinate.value point) }
-        ensures { gives rule points.now offsets.now (point_of P.Coordinate.value point) result };
+    /// Relates the contours' total winding number about a point to the result unless it is on an edge.
+    ghost tells: { FillRule → ℤ → Self.Answer → Type 0 };
+
+    /// Returns the result for a point on an edge, or `None` if that is the same as elsewhere.
+    fn on_edge() -> Option<Self::Answer>
+        ensures { Settles (point_by P.Coordinate.value P.point) tells gives result };
+
+    /// Returns the result for another point, about which the contours have the total winding number `turns`.
+    fn tell(rule: FillRule, turns: isize) -> Self::Answer
+        ensures { tells rule turns result };
 }
 
 /// Whether the rule fills the point: 1 or 0.
@@ -56,23 +51,14 @@ impl<P: CPoint> Telling<P> for Filled {
 
     ghost gives = { IsFilledByte (point_by P.Coordinate.value P.point) };
 
-    fn tell(
-        rule: FillRule,
-        points: &[P],
-        offsets: &[usize],
-        point: IntPoint<P::Coordinate>,
-        turns: isize,
-    ) -> u8
-        requires parted { PartsPoints (length points.now) offsets.now }
-        requires points_safe { AreSafeContours P.Coordinate.width
-            (point_by P.Coordinate.value P.point) points.now offsets.now }
-        requires point_safe { IsSafe P.Coordinate.width (point_of P.Coordinate.value point) }
-        requires turns { turns ≡ contours_winding (point_by P.Coordinate.value P.point)
-            points.now offsets.now (point_of P.Coordinate.value point) }
-        ensures { IsFilledByte (point_by P.Coordinate.value P.point) rule points.now offsets.now
-            (point_of P.Coordinate.value point) result }
-    {
-        if rule.fills(turns as i128) { 1 } else { 0 }
+    ghost tells = { λ rule turns byte. IsTold (IsFilled rule turns) (pos byte) };
+
+    fn on_edge() -> Option<u8> {
+        None
+    }
+
+    fn tell(rule: FillRule, turns: isize) -> u8 {
+        if fills(rule, turns) { 1 } else { 0 }
     }
 }
 
@@ -85,51 +71,15 @@ impl<P: CPoint> Telling<P> for Located {
 
     ghost gives = { IsLocated (point_by P.Coordinate.value P.point) };
 
-    fn tell(
-        rule: FillRule,
-        points: &[P],
-        offsets: &[usize],
-        point: IntPoint<P::Coordinate>,
-        turns: isize,
-    ) -> i8
-        requires parted { PartsPoints (length points.now) offsets.now }
-        requires points_safe { AreSafeContours P.Coordinate.width
-            (point_by P.Coordinate.value P.point) points.now offsets.now }
-        requires point_safe { IsSafe P.Coordinate.width (point_of P.Coordinate.value point) }
-        requires turns { turns ≡ contours_winding (point_by P.Coordinate.value P.point)
-            points.now offsets.now (point_of P.Coordinate.value point) }
-        ensures { IsLocated (point_by P.Coordinate.value P.point) rule points.now offsets.now
-            (point_of P.Coordinate.value point) result }
-    {
-        if is_on_contours(points, offsets, point) {
-            0
-        } else if rule.fills(turns as i128) {
-            1
-        } else {
-            -1
-        }
-    }
-}
+    ghost tells = { λ rule turns. IsLocation ⊥ (IsFilled rule turns) };
 
-/// Returns whether the point lies on an edge of one of the contours.
-fn is_on_contours<P: CPoint>(
-    points: &[P],
-    offsets: &[usize],
-    point: IntPoint<P::Coordinate>,
-) -> bool
-    requires parted { PartsPoints (length points.now) offsets.now }
-    requires points_safe { AreSafeContours P.Coordinate.width
-        (point_by P.Coordinate.value P.point) points.now offsets.now }
-    requires point_safe { IsSafe P.Coordinate.width (point_of P.Coordinate.value point) }
-    ensures { IsTrue result ↔ IsOnContours (point_by P.Coordinate.value P.point)
-        points.now offsets.now (point_of P.Coordinate.value point) }
-{
-    for place in 1..offsets.len() {
-        if is_on_boundary(part(points, offsets[place - 1], offsets[place]), point) {
-            return true;
-        }
+    fn on_edge() -> Option<i8> {
+        Some(0)
     }
-    false
+
+    fn tell(rule: FillRule, turns: isize) -> i8 {
+        if fills(rule, turns) { 1 } else { -1 }
+    }
 }
 
 /// Returns the fill rule of a code, or `None` where there is none.
@@ -211,8 +161,32 @@ fn tell_each<P: CPoint, T: Telling<P>>(
     ensures { AreTold (T.gives rule points.now offsets.now)
         (point_by P.Coordinate.value P.point) about.now out.old out.new }
 {
+    tell_off_edges::<P, T>(alloc, points, offsets, about, rule, out);
+    if let Some(mark) = T::on_edge() {
+        mark_edges(alloc, points, offsets, about, mark, out);
+    }
+}
+
+/// Writes for each point of `about` the result unless it is on an edge.
+fn tell_off_edges<P: CPoint, T: Telling<P>>(
+    alloc: Global,
+    points: &[P],
+    offsets: &[usize],
+    about: &[P],
+    rule: FillRule,
+    out: &mut [T::Answer],
+)
+    requires parted { PartsPoints (length points.now) offsets.now }
+    requires points_safe { AreSafeContours P.Coordinate.width
+        (point_by P.Coordinate.value P.point) points.now offsets.now }
+    requires about_safe { AreSafe P.Coordinate.width (point_by P.Coordinate.value P.point) about.now }
+    requires room { length about.now ≤ length out.old }
+    ensures { AreTold (λ p. T.tells rule (contours_winding
+        (point_by P.Coordinate.value P.point) points.now offsets.now p))
+        (point_by P.Coordinate.value P.point) about.now out.old out.new }
+{
     match winding_numbers(alloc, points, offsets, about) {
-        Ok(numbers) => tell_by_numbers::<P, T>(points, offsets, about, &numbers, rule, out),
+        Ok(numbers) => tell_by_numbers::<P, T>(&numbers, rule, out),
         Err(_) => tell_one_by_one::<P, T>(points, offsets, about, rule, out),
     }
 }
@@ -237,38 +211,22 @@ fn winding_numbers<P: CPoint>(
     Ok(numbers)
 }
 
-/// Writes the result for each point of `about`, given the contours' total winding numbers.
+/// Writes the result for each of the winding numbers.
 fn tell_by_numbers<P: CPoint, T: Telling<P>>(
-    points: &[P],
-    offsets: &[usize],
-    about: &[P],
     numbers: &[isize],
     rule: FillRule,
     out: &mut [T::Answer],
 )
-    requires parted { PartsPoints (length points.now) offsets.now }
-    requires points_safe { AreSafeContours P.Coordinate.width
-        (point_by P.Coordinate.value P.point) points.now offsets.now }
-    requires about_safe { AreSafe P.Coordinate.width (point_by P.Coordinate.value P.point) about.now }
-    requires room { length about.now ≤ length out.old }
-    requires numbers { numbers.now ≡ map (λ q. contours_winding
-        (point_by P.Coordinate.value P.point) points.now offsets.now
-        (point_by P.Coordinate.value P.point q)) about.now }
-    ensures { AreTold (T.gives rule points.now offsets.now)
-        (point_by P.Coordinate.value P.point) about.now out.old out.new }
+    requires room { length numbers.now ≤ length out.old }
+    ensures each { AllZip (T.tells rule) numbers.now (take (length numbers.now) out.new) }
+    ensures rest { drop (length numbers.now) out.new ≡ drop (length numbers.now) out.old }
 {
-    for place in 0..about.len() {
-        out[place] = T::tell(
-            rule,
-            points,
-            offsets,
-            about[place].to_point(),
-            numbers[place],
-        );
+    for place in 0..numbers.len() {
+        out[place] = T::tell(rule, numbers[place]);
     }
 }
 
-/// Writes the result for each point of `about`, one by one.
+/// Writes for each point of `about` the result unless it is on an edge, one by one.
 fn tell_one_by_one<P: CPoint, T: Telling<P>>(
     points: &[P],
     offsets: &[usize],
@@ -281,12 +239,12 @@ fn tell_one_by_one<P: CPoint, T: Telling<P>>(
         (point_by P.Coordinate.value P.point) points.now offsets.now }
     requires about_safe { AreSafe P.Coordinate.width (point_by P.Coordinate.value P.point) about.now }
     requires room { length about.now ≤ length out.old }
-    ensures { AreTold (T.gives rule points.now offsets.now)
+    ensures { AreTold (λ p. T.tells rule (contours_winding
+        (point_by P.Coordinate.value P.point) points.now offsets.now p))
         (point_by P.Coordinate.value P.point) about.now out.old out.new }
 {
     for place in 0..about.len() {
-        let point = about[place].to_point();
-        let turns = wind_all(points, offsets, point);
-        out[place] = T::tell(rule, points, offsets, point, turns);
+        let turns = wind_all(points, offsets, about[place].to_point());
+        out[place] = T::tell(rule, turns);
     }
 }

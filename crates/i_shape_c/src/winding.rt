@@ -21,10 +21,10 @@ use i_shape_core::winding::winding_about;
 use std::alloc::{AllocError, Global};
 
 /// The fewest points that are sorted by their heights. Fewer are faster one by one.
-const FEWEST_SORTED: usize = 32;
+pub const FEWEST_SORTED: usize = 32;
 
 /// The fewest points of contours for which the points asked about are sorted.
-const FEWEST_EDGES: usize = 64;
+pub const FEWEST_EDGES: usize = 64;
 
 /// The smallest batch of points that are sorted at once, unless fewer are asked about.
 const LEAST_BATCH: usize = 65_536;

@@ -230,14 +230,12 @@ pub(crate) struct Filled {}
 impl<P: CPoint> Telling<P> for Filled {
     type Answer = bool;
 
-    fn tell(
-        rule: proved_rule::FillRule,
-        points: &[P],
-        offsets: &[usize],
-        point: proved::IntPoint<P::Coordinate>,
-        turns: isize,
-    ) -> bool {
-        <location::Filled as Telling<P>>::tell(rule, points, offsets, point, turns) == 1
+    fn on_edge() -> Option<bool> {
+        None
+    }
+
+    fn tell(rule: proved_rule::FillRule, turns: isize) -> bool {
+        <location::Filled as Telling<P>>::tell(rule, turns) == 1
     }
 }
 
@@ -248,15 +246,12 @@ pub(crate) struct Located {}
 impl<P: CPoint> Telling<P> for Located {
     type Answer = Location;
 
-    fn tell(
-        rule: proved_rule::FillRule,
-        points: &[P],
-        offsets: &[usize],
-        point: proved::IntPoint<P::Coordinate>,
-        turns: isize,
-    ) -> Location {
-        match <location::Located as Telling<P>>::tell(rule, points, offsets, point, turns) {
-            0 => Location::OnBoundary,
+    fn on_edge() -> Option<Location> {
+        Some(Location::OnBoundary)
+    }
+
+    fn tell(rule: proved_rule::FillRule, turns: isize) -> Location {
+        match <location::Located as Telling<P>>::tell(rule, turns) {
             1 => Location::Inside,
             _ => Location::Outside,
         }

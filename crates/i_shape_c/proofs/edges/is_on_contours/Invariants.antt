@@ -2,7 +2,7 @@ use Rattle.std.proofs.Common.{ℕ, ◌+◌, ◌<◌, map}
 use Rattle.i_shape.specs.IntPoint.{point_of}
 use Rattle.i_shape.specs.Boundary.{IsOnEdge}
 use Rattle.i_shape_c.specs.Batch.{nth_contour}
-use Rattle.i_shape_c.proofs.location.is_on_contours.Given as goal
+use Rattle.i_shape_c.proofs.edges.is_on_contours.Given as goal
 
 abbrev pub invariant-loop-place : goal.invariant-loop-place
 invariant-loop-place g l =

@@ -6,7 +6,7 @@ use Rattle.i_shape_c.specs.Batch.{offset, nth_contour}
 use Rattle.i_shape_c.proofs.Batches.{safe_part}
 use Rattle.i_shape_core.proofs.Lists.Rings.{rises_to}
 use Rattle.i_shape_c.proofs.Boundary.{copied_points, safe_contour}
-use Rattle.i_shape_c.proofs.location.is_on_contours.Goals as goal
+use Rattle.i_shape_c.proofs.edges.is_on_contours.Goals as goal
 
 pub part-requires-clause-within : goal.part-requires-clause-within
 part-requires-clause-within g c =
