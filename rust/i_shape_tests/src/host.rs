@@ -46,10 +46,14 @@ pub trait Abort {}
 
 impl Abort for HostRuntime {}
 
+impl<R: Abort> Abort for &R {}
+
 /// Rattle's `Print`: what can print.
 pub trait Print {}
 
 impl Print for HostRuntime {}
+
+impl<R: Print> Print for &R {}
 
 /// Prints the line, and in front of it whether a growth was refused.
 pub fn print(line: fmt::Arguments<'_>) -> io::Result<()> {
