@@ -417,7 +417,7 @@ static void AT(test_many_points)(void) {
     ptrdiff_t numbers[ASKED];
     uint8_t filled[ASKED];
     int8_t located[ASKED];
-    for (int growth = 0; growth <= 4; growth++) {
+    for (int growth = 0; growth <= 5; growth++) {
 #ifdef FAILS_GROWTHS
         failing = (size_t)growth;
         growths = 0;
@@ -435,7 +435,7 @@ static void AT(test_many_points)(void) {
 #endif
         check(CALL(locate)(ring, 4 * SIDE, offsets, 2, about, ASKED, I_SHAPE_EVEN_ODD, located, ASKED) == 0, W, "locate", "memory that fails");
 #ifdef FAILS_GROWTHS
-        check(growth != 0 || growths == 3, W, "locate", "how often memory is taken");
+        check(growth != 0 || growths == 4, W, "locate", "how often memory is taken");
         check(blocks == 0, W, "locate", "a block is lost");
         failing = 0;
 #endif
