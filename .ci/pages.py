@@ -9,7 +9,7 @@ usage: .ci/pages.py [--quick] [PAGE..]
 - a block `c`, `cpp` or `js`: it is in a file of C or C++, or is a file of JavaScript;
 - a block `console`: its commands run in order, as in one shell at the top of a clone named raspochre, each printing what follows it;
 - the links within the repository: the page is there, and the heading; and no line of a merge is left;
-- docs/develop/README.md has an item for each part of the gate, and names each edit of must-fail/ and no edit that isn't there;
+- docs/develop/README.md has an item for each part of the gate, and names each edit of must-fail/ and no mutant that isn't there;
 - the version in CHANGELOG.md, the archive, the packages for Python and JavaScript, the extension of PostgreSQL and the crate for Rust is that of the header.
 
 A block `console` names what has to be there, as in `console library python`, and is skipped where it isn't, and one that is named `long` with --quick. What is skipped
@@ -213,12 +213,14 @@ def fault_of_gate():
 
 
 def fault_of_edits():
-    """The table of docs/develop/README.md names each edit of must-fail/ and no other."""
+    """The table of docs/develop/README.md names each edit of must-fail/, and otherwise only mutants of wrong/."""
     edits = {tuple(name.removesuffix(".edit").split("/")[-3::2]) for name in files(["crates/*/must-fail/*.edit"])}
+    blocks = {(file.split("/crates/")[1].split("/")[0], name) for file in files(["crates/*/wrong/**/*.edit"])
+              for name in re.findall("^mutant: (.+)$", read(file), re.MULTILINE)}
     rows = re.findall(r"^\| (`\w+`(?:, `\w+`)*) \| (core|source|shape|tool)\b", read(f"{TOP}/docs/develop/README.md"), re.MULTILINE)
     named = {("i_shape" if crate == "shape" else f"i_shape_{crate}", name) for names, crate in rows for name in re.findall(r"`(\w+)`", names)}
     faults = [f"{crate}'s {name} isn't named" for crate, name in edits - named]
-    return "; ".join(sorted(faults + [f"{crate} has no edit {name} in must-fail/" for crate, name in named - edits])) or None
+    return "; ".join(sorted(faults + [f"{crate} has no mutant {name}" for crate, name in named - edits - blocks])) or None
 
 
 FAULTS = {
