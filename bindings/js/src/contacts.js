@@ -29,5 +29,5 @@ export function edgesOf(points, { Points }, offsets, contacts) {
         if (!(place >= offsets[0] && place in next)) throw new RangeError(`contacts have the place ${String(place)}: no ring has such a point`);
         return [place, next[place]].flatMap((end) => [points[2 * end], points[2 * end + 1]]);
     };
-    return Points.from(contacts.flatMap(({ first, second }) => [...edge(first), ...edge(second)]));
+    return Points.from(Array.from(contacts, ({ first, second }) => [...edge(first), ...edge(second)]).flat());
 }

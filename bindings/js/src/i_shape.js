@@ -198,10 +198,11 @@ class IShape {
         return borrow(this.#exports, (loan) => {
             const given = new Given(loan, points, kind, rings);
             this.#checkOffsets(given);
-            const edges = new Given(loan, edgesOf(points, kind, rings, contacts), kind);
-            const out = loan.take(contacts.length);
-            this.#answered(this.#call("kinds_of_contacts", kind)(...edges.words, out, contacts.length), given);
-            return kindsOf(loan.read(Uint8Array, out, contacts.length));
+            const ends = edgesOf(points, kind, rings, contacts);
+            const count = ends.length / 8;
+            const out = loan.take(count);
+            this.#answered(this.#call("kinds_of_contacts", kind)(...new Given(loan, ends, kind).words, out, count), given);
+            return kindsOf(loan.read(Uint8Array, out, count));
         });
     }
 

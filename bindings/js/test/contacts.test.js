@@ -64,6 +64,7 @@ describeWidths((shapes, { points, limit }) => {
         }
         assert.throws(() => shapes.kindsOfContacts(square, [0, 5], [pair]), { name: "OffsetsError", place: 1 });
         assert.throws(() => shapes.kindsOfContacts(square, [0, 4]), TypeError);
+        assert.throws(() => shapes.kindsOfContacts(square, [0, 4], [, pair]), TypeError);
         square[2] = limit;
         assert.deepEqual(shapes.kindsOfContacts(square, [0, 4], [pair]), ["touch"]);
         assert.throws(() => shapes.kindsOfContacts(square, [1, 1, 4], [pair]), { name: "UnsafePointError", point: 1, ring: 1 });
