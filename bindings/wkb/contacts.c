@@ -165,7 +165,7 @@ static size_t drop_repeats(Position *points, size_t count) {
 MultiPoint find_contact_points(const Geometry *geometry, const i_shape_contact *contacts, size_t count, Grid grid, Pause pause, Position *room) {
     size_t found = 0;
     for (size_t k = 0; k < count; k++) {
-        if (k % PAUSE_POINTS == 0) take_pause(pause);
+        if (k % PAUSE_CONTACTS == 0) take_pause(pause);
         found += points_of_contact(edge_from(geometry, contacts[k].first), edge_from(geometry, contacts[k].second), grid, room + found);
     }
     qsort(room, found, sizeof *room, compare_positions);

@@ -15,7 +15,8 @@ static inline void take_pause(Pause pause) {
     pause.call(pause.host);
 }
 
-enum { PAUSE_POINTS = 1 << 16 };
+/* The points of a contact take as long to be found as many are to be read. */
+enum { PAUSE_POINTS = 1 << 16, PAUSE_CONTACTS = 1 << 10 };
 
 /* Whole numbers among floats, by the rule of docs/DATA.md, "Keys". steps_to_one is 0 where no whole number of steps
  * makes 1. Numbers of steps lie strictly between -limit and limit: 2^49, or less where more steps lead beyond the floats. */

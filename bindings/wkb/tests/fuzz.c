@@ -269,14 +269,14 @@ static void must_have_paused(size_t least) {
     pauses = 0;
 }
 
-/* Within as many contacts as four pauses, all of one edge with itself, and as many points. */
+/* Within contacts, all of one edge with itself, and within as many points as four pauses. */
 static void check_pauses_of_contacts(const Geometry *given, Grid grid) {
     const size_t count = 4 * PAUSE_POINTS;
     i_shape_contact *contacts = calloc(count, sizeof *contacts);
     Position *points = calloc(2 * count, sizeof *points);
     MultiPoint found = find_contact_points(given, contacts, count, grid, count_pause, points);
     must(found.count == 2, "an edge has two ends");
-    must_have_paused(4);
+    must_have_paused(count / PAUSE_CONTACTS);
     found.count = count;
     void *wkb = block_of(multipoint_size(&found));
     write_multipoint(&found, count_pause, wkb);
