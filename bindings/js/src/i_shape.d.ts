@@ -214,7 +214,8 @@ export interface IShape {
     firstContactOfRings(points: Points, offsets: Offsets): Contact | undefined;
 
     /**
-     * All pairs of edges that are in contact, by `first`, and those of one `first` by `second`. It tries all pairs of edges.
+     * All pairs of edges that are in contact, by `first`, and those of one `first` by `second`. It tries all pairs of edges, and each may be in contact: where the
+     * engine has no memory for so many objects, it ends the program.
      * @throws {UnsafePointError}
      * @throws {OutOfMemoryError}
      */
