@@ -275,7 +275,7 @@ def kinds_of_contacts(contours: Contours[Int],
     UnsafePointError
         An end of these edges isn't safe. ``ring`` and ``point`` are those of
         the first unsafe point of the contours.
-    OffsetsError, TypeError, ValueError
+    OffsetsError, TypeError, ValueError, MemoryError
         As :func:`winding_numbers` does.
 
     Examples
