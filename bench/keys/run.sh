@@ -1,9 +1,9 @@
 #!/usr/bin/env bash
-# The keys of COUNT polygons that polygons.c makes of SEED, by C, Python, SQLite, JavaScript, and PostgreSQL where PGDATABASE names a database with the extension:
-# for each the seconds of processor time, of PostgreSQL elapsed ones, and whether they are those of C, by one SHA-256, or the index of the first that isn't; of C,
-# whether repeats have the key of their original; of JavaScript, whose keys are strings, whether the same are equal.
+# The keys of COUNT polygons that polygons.c makes of SEED, by C, Rust, Python, SQLite, JavaScript, and PostgreSQL where PGDATABASE names a database with the
+# extension: for each the seconds of processor time, of PostgreSQL and Rust elapsed ones, and whether they are those of C, by one SHA-256, or the index of the
+# first that isn't; of C, whether repeats have the key of their original; of JavaScript, whose keys are strings, whether the same are equal.
 #
-# It takes what `make c sqlite wasm` builds, Python with numpy, and Node.
+# It takes what `make c sqlite wasm` builds, Python with numpy, cargo, and Node.
 #
 # usage: bench/keys/run.sh [COUNT [SEED]]
 set -eu
@@ -30,6 +30,7 @@ build polygons
 build keys "$library/libi_shape.a" -lm -lpthread
 "$work/by_polygons" "${1:-1000000}" "${2:-1}" "$work"
 try c "$work/by_keys" "$work"
+try rust cargo run --release --offline --locked --quiet --manifest-path "$top/rust/i_shape/Cargo.toml" --example keys "$work"
 try python by_python python "$work"
 try sqlite by_python sqlite "$work"
 [ -z "${PGDATABASE-}" ] || try postgres by_python postgres "$work"
