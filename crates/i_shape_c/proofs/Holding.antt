@@ -1,5 +1,5 @@
 -- Boxes of polygons, and the first polygon that holds a point.
-use Rattle.std.proofs.Common.{◌≡◌, ◌∙◌, ℕ, zero, suc, ◌+◌, ◌-◌, ◌<◌, ◌≤◌, ◌++◌, List, [], ◌∷◌, map, length, length-append, get_or, slice_range, ℤ, pos, ◌+ℤ◌, ◌<ℤ◌, All, refl, ap, ap₂, sym, subst, subst₂, arith, ◌⊎◌, inl, inr}
+use Rattle.std.proofs.Common.{◌≡◌, ◌∙◌, ℕ, zero, suc, ◌+◌, ◌-◌, ◌<◌, ◌≤◌, ◌++◌, List, [], ◌∷◌, map, length, length-append, get_or, slice_range, ℤ, pos, ◌+ℤ◌, ◌<ℤ◌, All, refl, ap, ap₂, sym, subst, subst₂, arith, inl, inr}
 use Rattle.std.specs.List.{range_with_len}
 use Rattle.std.proofs.lemmas.Bool.{cases_lt, cases_eq}
 use Rattle.std.proofs.lemmas.Int.{ints}

@@ -1,5 +1,5 @@
 -- Contours that are cleaned, and then sorted except for the first of each polygon.
-use Rattle.std.proofs.Common.{◌≡◌, ℕ, zero, suc, ◌+◌, ◌-◌, ◌≤◌, ◌<◌, ◌++◌, List, [], ◌∷◌, length, take, drop, map, slice_range, set, append-nil, length-take-le, length-drop, refl, sym, ap, subst, ◌∙◌, arith}
+use Rattle.std.proofs.Common.{◌≡◌, ℕ, zero, suc, ◌+◌, ◌-◌, ◌≤◌, ◌<◌, ◌++◌, List, [], length, take, drop, map, slice_range, set, length-take-le, length-drop, refl, sym, ap, subst, ◌∙◌, arith}
 use Rattle.std.specs.Int.{Width}
 use Rattle.std.specs.List.{AllPairs, AllZip, sum_by, range_with_len}
 use Rattle.std.proofs.Math.Seq.{take-add}

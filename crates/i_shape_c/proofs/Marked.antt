@@ -1,16 +1,15 @@
 -- What is written where points are on edges of contours.
-use Rattle.std.proofs.Common.{rules, ◌↔◌, Bool, true, false, IsTrue, int_lt, ◌≡◌, ◌∙◌, ◌⊎◌, inl, inr, zero, suc, ℕ, ◌+◌, ◌-◌, ◌<◌, ◌≤◌, List, [], ◌∷◌, map, length, take, drop, set, get_or, ℤ, pos, negsuc, ◌-ℤ◌, ◌+ℤ◌, ◌*ℤ◌, ◌<ℤ◌, ◌≤ℤ◌, refl, ap, sym, subst, Option, Some, None, arith, IsPermutation, Contains}
+use Rattle.std.proofs.Common.{◌↔◌, Bool, true, false, IsTrue, int_lt, ◌≡◌, ◌∙◌, ◌⊎◌, inl, inr, zero, suc, ℕ, ◌+◌, ◌-◌, ◌<◌, ◌≤◌, List, [], ◌∷◌, map, length, take, drop, set, get_or, ℤ, pos, negsuc, ◌-ℤ◌, ◌+ℤ◌, ◌*ℤ◌, ◌<ℤ◌, ◌≤ℤ◌, refl, ap, sym, subst, arith, IsPermutation}
 use Rattle.std.proofs.lemmas.Bool.{cases_lt, cases_eq}
 use Rattle.std.proofs.lemmas.Int.{ints, by_lt_z}
 use Rattle.std.proofs.lemmas.List.{get_or-map, length-map, get_or-set_same, get_or-set_other, get_or_default, get_or-take, get_or-drop, length-take, length-drop, length-set, same_lists}
-use Rattle.std.proofs.lemmas.List.Elements.{All-contains, Contains-get_or}
-use Rattle.std.specs.List.{AllZip}
+use Rattle.std.proofs.lemmas.List.Elements.{All-contains}
 use Rattle.std.proofs.lemmas.Slice.Zip.{AllZip-long}
 use Rattle.i_shape_core.proofs.Common.{place_before, place_after, Point, origin, point_of, point_at, contour_of}
 use Rattle.i_shape.specs.IntPoints.{IntPoint}
 use Rattle.i_shape_core.specs.Point.{cross, dot}
 use Rattle.i_shape_core.specs.Boundary.{IsBetween, IsOnEdge}
-use Rattle.i_shape_core.specs.Heights.{asked_points, asks}
+use Rattle.i_shape_core.specs.Heights.{asks}
 use Rattle.i_shape_core.specs.declared.measure.heights.Asked.{Asked}
 use Rattle.i_shape_core.proofs.Arithmetic.Polynomials.{plus, times, minus, by_polynomials}
 use Rattle.i_shape_core.proofs.Arithmetic.WholeNumbers.{not_positive_of, drop_last}

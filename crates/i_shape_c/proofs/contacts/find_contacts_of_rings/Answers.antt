@@ -1,4 +1,4 @@
-use Rattle.std.proofs.Common.{◌-◌, ◌^◌, ◌<◌, Some, map, refl, arith, w64}
+use Rattle.std.proofs.Common.{◌^◌, ◌<◌, Some, map, refl, arith, w64}
 use Rattle.std.proofs.lemmas.Int.{to_z_pos}
 use Rattle.i_shape.specs.IntPoint.{point_of}
 use Rattle.i_shape_contacts.specs.Contacts.{IsRingContact}

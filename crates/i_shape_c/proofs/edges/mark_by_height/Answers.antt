@@ -1,4 +1,4 @@
-use Rattle.std.proofs.Common.{◌≡◌, ◌∙◌, ◌<◌, List, length, map, ap, sym, subst, arith, IsPermutation}
+use Rattle.std.proofs.Common.{◌≡◌, ◌<◌, List, length, map, sym, subst, arith, IsPermutation}
 use Rattle.std.specs.List.{All}
 use Rattle.i_shape_core.proofs.Common.{point_of, contour_of, IsSafe}
 use Rattle.i_shape_core.proofs.Plane.PointLists.{points-length}

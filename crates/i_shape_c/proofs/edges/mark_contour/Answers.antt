@@ -1,11 +1,11 @@
-use Rattle.std.proofs.Common.{◌≡◌, ◌∙◌, ◌+◌, ◌<◌, ◌⊎◌, inl, inr, length, sym, subst, subst₂, arith}
+use Rattle.std.proofs.Common.{◌≡◌, ◌+◌, ◌<◌, inl, inr, length, sym, subst, subst₂, arith}
 use Rattle.std.specs.List.{All}
 use Rattle.i_shape.specs.Boundary.{IsBetween, IsOnEdge}
-use Rattle.i_shape_core.proofs.Common.{Point, point_of, contour_of, point_at}
+use Rattle.i_shape_core.proofs.Common.{point_of, contour_of, point_at}
 use Rattle.i_shape_core.proofs.Plane.Contours.{length-contour, read-point}
 use Rattle.i_shape_core.proofs.Plane.PointLists.{points-length, item_read, last_read}
 use Rattle.i_shape_core.proofs.Plane.SafeParts.{item_safe}
-use Rattle.i_shape_core.proofs.Sums.BoundaryWalk.{EndsOn, from_last, from_next}
+use Rattle.i_shape_core.proofs.Sums.BoundaryWalk.{from_last, from_next}
 use Rattle.i_shape_c.specs.Steps.AskedFor.{IsAskedFor}
 use Rattle.i_shape_c.proofs.Marked.{EndsBefore, none_marked, marked_as, asked_as, asked_more, ends_later, ends_here, ends_more, on_of_ends, ends_of_on}
 use Rattle.i_shape_c.proofs.edges.mark_contour.Goals as goal

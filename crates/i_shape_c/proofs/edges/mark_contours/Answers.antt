@@ -1,6 +1,6 @@
-use Rattle.std.proofs.Common.{◌≡◌, ◌∙◌, ◌+◌, ◌-◌, ◌<◌, ◌⊎◌, inl, inr, length, map, slice_range, ap, sym, subst, refl, arith}
+use Rattle.std.proofs.Common.{◌≡◌, ◌∙◌, ◌+◌, ◌-◌, ◌<◌, inl, inr, length, map, slice_range, ap, sym, subst, arith}
 use Rattle.std.specs.List.{All}
-use Rattle.i_shape_core.proofs.Common.{Point, point_of, contour_of}
+use Rattle.i_shape_core.proofs.Common.{point_of, contour_of}
 use Rattle.i_shape_core.proofs.Lists.Rings.{rises_to}
 use Rattle.i_shape.specs.Boundary.{IsOnEdge}
 use Rattle.i_shape_c.specs.Batch.{offset, nth_contour}

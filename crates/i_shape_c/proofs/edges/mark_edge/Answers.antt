@@ -1,4 +1,4 @@
-use Rattle.std.proofs.Common.{◌≡◌, ◌∙◌, ◌+◌, set, ◌<◌, ◌<ℤ◌, ◌≤ℤ◌, length, get_or, ap, sym, refl, subst, subst₂, IsTrue, arith}
+use Rattle.std.proofs.Common.{◌≡◌, ◌∙◌, ◌+◌, set, ◌<ℤ◌, ◌≤ℤ◌, get_or, ap, sym, refl, subst, subst₂, IsTrue, arith}
 use Rattle.std.proofs.lemmas.Int.{ints}
 use Rattle.i_shape.specs.Boundary.{IsBetween}
 use Rattle.i_shape.specs.Heights.{asked_points}

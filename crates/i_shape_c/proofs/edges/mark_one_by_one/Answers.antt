@@ -1,4 +1,4 @@
-use Rattle.std.proofs.Common.{◌≡◌, ◌∙◌, ◌<◌, length, map, ap, sym, subst, refl, IsTrue, arith}
+use Rattle.std.proofs.Common.{◌≡◌, ◌∙◌, map, ap, sym, subst, IsTrue, arith}
 use Rattle.std.proofs.lemmas.List.{get_or-map, length-map}
 use Rattle.i_shape_core.proofs.Common.{point_of, point_at, origin}
 use Rattle.i_shape_c.specs.Locations.{IsOnContours}

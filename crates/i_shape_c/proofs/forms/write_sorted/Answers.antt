@@ -1,4 +1,4 @@
-use Rattle.std.proofs.Common.{◌≡◌, ◌-◌, ◌∙◌, IsSorted, length, map, sym, ap, ap₂, subst, subst₂, arith, take_at}
+use Rattle.std.proofs.Common.{◌≡◌, ◌-◌, ◌∙◌, length, map, sym, ap, ap₂, subst, subst₂, arith, take_at}
 use Rattle.std.specs.List.{AllPairs}
 use Rattle.i_shape_core.proofs.Common.{Point, point_of, IsAtMost}
 use Rattle.i_shape.specs.Paths.{concatenated}

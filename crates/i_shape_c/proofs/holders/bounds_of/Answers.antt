@@ -1,4 +1,4 @@
-use Rattle.std.proofs.Common.{◌≡◌, ◌+◌, ◌<◌, All, length, take, get_or, subst, sym, arith, rules}
+use Rattle.std.proofs.Common.{◌≡◌, All, length, take, subst, arith, rules}
 use Rattle.std.proofs.lemmas.List.{take_all}
 use Rattle.std.proofs.lemmas.List.Elements.{All-more}
 use Rattle.i_shape.specs.IntPoint.{point_of}

@@ -1,4 +1,4 @@
-use Rattle.std.proofs.Common.{length, ap, arith}
+use Rattle.std.proofs.Common.{arith}
 use Rattle.i_shape_c.proofs.holders.boxes_if_memory.Goals as goal
 
 pub returns-in-Err : goal.returns-in-Err

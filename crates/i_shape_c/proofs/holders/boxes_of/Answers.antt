@@ -1,4 +1,4 @@
-use Rattle.std.proofs.Common.{◌≡◌, ◌∙◌, ◌+◌, ◌-◌, ◌≤◌, ◌<◌, ◌∷◌, [], length, length-append, All, slice_range, ap, sym, subst, arith, rules}
+use Rattle.std.proofs.Common.{◌≡◌, ◌∙◌, ◌+◌, ◌-◌, ◌<◌, ◌∷◌, [], length, length-append, All, slice_range, ap, sym, subst, arith, rules}
 use Rattle.i_shape.specs.IntPoint.{point_of}
 use Rattle.i_shape_contacts.specs.Steps.Boxes.{Holds}
 use Rattle.i_shape_core.proofs.Lists.Rings.{rises_to}

@@ -1,4 +1,4 @@
-use Rattle.std.proofs.Common.{◌≡◌, ◌∙◌, ◌↔◌, ℕ, ◌+◌, ◌-◌, ◌<◌, List, length, get_or, slice_range, refl, sym, ap, subst, arith, inl, inr, IsTrue, FitsSigned, to_z, of_z, w64}
+use Rattle.std.proofs.Common.{◌≡◌, ◌∙◌, ℕ, ◌+◌, ◌-◌, List, length, get_or, slice_range, refl, sym, ap, subst, arith, inl, inr, IsTrue, FitsSigned, to_z, of_z, w64}
 use Rattle.std.proofs.lemmas.Int.{to_z-of_z}
 use Rattle.i_shape.specs.IntPoint.{point_of, IsSafe}
 use Rattle.i_shape.specs.Filling.{IsFilled}

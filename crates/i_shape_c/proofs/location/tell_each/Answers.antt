@@ -1,4 +1,4 @@
-use Rattle.std.proofs.Common.{◌≡◌, subst, ap, sym, arith}
+use Rattle.std.proofs.Common.{subst}
 use Rattle.i_shape.specs.IntPoint.{point_of}
 use Rattle.i_shape_c.specs.Locations.{IsOnContours, Settles}
 use Rattle.i_shape_c.specs.Windings.{contours_winding}
