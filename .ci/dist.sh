@@ -289,7 +289,7 @@ test_size() {
 # What the page of the package shows runs where the package lies as one that was installed.
 test_javascript() {
     local chromium=$top/bindings/js/test/support/chromium.js has_chromium='process.exit((await import(process.argv[1])).noChromium ? 1 : 0)'
-    unpack javascript "i_shape-$version-javascript.tgz" LICENSE NOTICE README.md out/i_shape32.wasm package.json src/{arrays,errors,faults,geojson,i_shape,loading,memory,options}.js \
+    unpack javascript "i_shape-$version-javascript.tgz" LICENSE NOTICE README.md out/i_shape32.wasm package.json src/{arrays,contacts,errors,faults,geojson,i_shape,loading,memory,options}.js \
         src/{i_shape,module}.d.ts || return
     test_size
     has 'javascript: the files that npm packs' npm &&
