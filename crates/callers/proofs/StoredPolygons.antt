@@ -120,6 +120,7 @@ never_same (c ∷ s) (d ∷ t) [] a collapses same = a
 never_same (c ∷ s) (d ∷ t) (x ∷ l) a collapses same = never_joined a.0 collapses same.0
 
 module _ (store : List (List (List Point))) (forms : AreOwnForms store) where
+  -- each polygon of the store is its own form
   own : (form : List (List Point)) → Contains store form → ShapeForm CanonicalAnswer form (Some form)
   own form there = All-contains (λ form. ShapeForm CanonicalAnswer form (Some form)) store form forms there
 

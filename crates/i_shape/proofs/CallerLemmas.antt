@@ -29,7 +29,7 @@ pub shapes_of_lists : {I : Type 0} (value : I → ℤ) (shapes : List (Vec (Vec 
 shapes_of_lists value [] = refl
 shapes_of_lists value (shape ∷ shapes) = λ i. shape_of_paths value shape.items i ∷ shapes_of_lists value shapes i
 
--- a buffer that holds shapes names them
+-- where a buffer holds shapes, its ranges name these shapes
 pub named_held : {I : Type 0} (value : I → ℤ) (buffer : FlatShapesBuffer I) (shapes : List (Vec (Vec (IntPoint I)))) → HoldsShapes buffer (shape_lists shapes) → named_shapes value buffer ≡ shapes_of value shapes
 named_held value buffer shapes held = ap (map (map (contour_of value))) held.shapes ∙ sym (shapes_of_lists value shapes)
 
@@ -52,7 +52,7 @@ safe_named width value buffer safe = safe_ranges width value buffer.points.items
 pub same_shapes : {I : Type 0} (value : I → ℤ) (a b : List (Vec (Vec (IntPoint I)))) → shape_lists a ≡ shape_lists b → shapes_of value a ≡ shapes_of value b
 same_shapes value a b same = shapes_of_lists value a ∙ ap (map (map (contour_of value))) same ∙ sym (shapes_of_lists value b)
 
--- a buffer that holds contours names them
+-- where a buffer holds contours, its ranges name these contours
 pub contours_held : {I : Type 0} (value : I → ℤ) (buffer : FlatContoursBuffer I) (contours : List (Vec (IntPoint I))) → HoldsContours buffer (paths_of_shape contours) → contours_in value buffer ≡ shape_of value contours
 contours_held value buffer contours held = ap (map (contour_of value)) held.slices ∙ sym (shape_of_paths value contours)
 

@@ -1,3 +1,3 @@
--- What steps of cleaning leave, of which private functions alone speak.
+-- What steps of cleaning leave, which only private functions cite.
 pub mod AppendedAnswers
 pub mod LeftInPlace

@@ -1,2 +1,2 @@
--- The states of walks and searches, of which private functions alone speak.
+-- The states of walks and searches, which only private functions cite.
 pub mod Walks

@@ -14,7 +14,7 @@ use Rattle.i_shape_core.proofs.Plane.Back.{way_squared, square_term, dot_same-fi
 use Rattle.i_shape_core.proofs.Moved.Mapped.{reach_mapped}
 use Rattle.i_shape_core.proofs.Moved.ZeroTurns.{zero_moved}
 use Rattle.i_shape_laws.specs.Moved.{BoundaryWithin}
-use Rattle.i_shape_laws.proofs.Moved.Back.{no_way}
+use Rattle.i_shape_laws.proofs.Moved.Back.{equal_of_low_distance}
 
 -- the negative of `dot q p b` times the squared distance of a and p, by the dot and cross products at p from a
 two_ways : (a p q b : Point) → dot a p b *ℤ dot a p q +ℤ cross a p q *ℤ cross a p b ≡ way_squared a p *ℤ neg_ℤ (dot q p b)
@@ -33,7 +33,7 @@ at_start a q = record { straight = cross_same-first a q; ahead = let e = dot_sam
 
 -- if a, q and b are collinear, each point of the edge ab is on aq or on qb
 pub between_two : (a p q b : Point) → cross a q b ≡ pos 0 → IsBetween a p b → IsBetween a p q ⊎ IsBetween q p b
-between_two a p q b z w = by_lt_z (pos 0) (way_squared a p) apart (λ h. inl (subst (λ (x : Point). IsBetween a x q) (no_way a p h) (at_start a q)))
+between_two a p q b z w = by_lt_z (pos 0) (way_squared a p) apart (λ h. inl (subst (λ (x : Point). IsBetween a x q) (equal_of_low_distance a p h) (at_start a q)))
   where
     back : a ≡ b → pos 0 <ℤ way_squared a p → ⊥
     back e h = let f = subst (λ (x : Point). pos 0 ≤ℤ dot a p x) (sym e) w.ahead in let g = back_again a p in omega (arith, ints)

@@ -24,6 +24,7 @@ pub record WindingRotated (c d : List Point) : Type 0 where
 abbrev pub WindingBetween : List Point → List Point → Type 0
 WindingBetween c d = Reach IsZeroTurn c d → (n : ℤ) (p : Point) → winding (moved (scaling n) c) p ≡ winding (moved (scaling n) d) p
 
--- if each contour leaves what keeps its measures, or nothing if it is flat, each rule fills the same points
+-- if `left` has for each contour one that keeps its measures, or none where the contour is flat, each rule fills the same
+-- points of both
 abbrev pub FillingKept : List (List Point) → List (List Point) → Type 0
 FillingKept contours left = Survivors KeptAnswer contours left → (rule : FillRule) (p : Point) → IsFilled rule (shape_winding contours p) ↔ IsFilled rule (shape_winding left p)

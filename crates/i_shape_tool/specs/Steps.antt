@@ -1,2 +1,2 @@
--- How a number is read, of which private functions alone speak.
+-- How a number is read, which only private functions cite.
 pub mod Numeral

@@ -32,6 +32,7 @@ pub fn show_contour(output: &mut String, contour: &[IntPoint<i32>]) -> Result<()
     while !left.is_empty() {
         let (points, after) = left.split_at(left.len().min(POINTS));
         let start = write_points(points, &mut text) + skipped;
+        // SAFETY: the text is ASCII, by the clause `ascii` of `write_points`.
         output.push_str(unsafe { str::from_utf8_unchecked(&text[start..]) })?;
         left = after;
         skipped = 0;

@@ -9,6 +9,7 @@ module _ {X : Type 0} (R : List X → List X → Type 0) (same : (xs : List X) �
     (skip : (x : X) (xs ys : List X) → R xs ys → R (x ∷ xs) (x ∷ ys))
     (exchange : (x y : X) (xs : List X) → R (x ∷ y ∷ xs) (y ∷ x ∷ xs))
     (chain : (xs ys zs : List X) → R xs ys → R ys zs → R xs zs) where
+  -- a list is related to the one with its first item and a later one exchanged
   to_head : (l : List X) (j : ℕ) (x d : X) → j < length l → R (x ∷ l) (get_or l j d ∷ set l j x)
   to_head [] j x d h = absurd (omega arith)
   to_head (y ∷ l) zero x d h = exchange x y l

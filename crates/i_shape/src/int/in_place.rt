@@ -66,7 +66,8 @@ pub fn clean_list_in_place<I: IntNumber, C: InPlaceCleaner>(
     Ok(true)
 }
 
-/// Returns the number of points of the longest contour that isn't clean, or `None` if all are clean.
+/// Returns the number of points of the longest contour that isn't clean, or `None` if all are clean. Cleaning tests
+/// each contour again, since a mark of those that aren't clean would take memory.
 fn longest_unclean<I: IntNumber, C: ContourCleaner>(shape: &[IntContour<I>]) -> Option<usize>
     requires { IsSafeShape I.width (shape_of I.value shape.now) }
     ensures { LongestUnclean (Contains (shape_of I.value shape.now)) C.meaning.clean length result }

@@ -6,7 +6,7 @@ use Rattle.i_shape_core.proofs.Common.{Point, cross, dot, IsZeroTurn, point_at, 
 use Rattle.i_shape_core.specs.Convex.{cross_at, BendsOneWay}
 use Rattle.i_shape_core.proofs.Plane.CrossProducts.{cross_reversed, zero_reversed, dot_reversed}
 use Rattle.i_shape_core.proofs.Arithmetic.WholeNumbers.{Alike, alike_same, alike_scaled, sum_above, drop_last, below_negated, above_negated, zero_not_above, zero_not_below}
-use Rattle.i_shape_core.proofs.Plane.Back.{straight_cross, way_squared, square_at_least, no_way, back_from_cases}
+use Rattle.i_shape_core.proofs.Plane.Back.{straight_cross, way_squared, square_at_least, equal_of_distance, back_from_cases}
 use Rattle.i_shape_core.proofs.Removal.Places.{Follows, after_is, before_is, Stood, place_stood, stood_point, stood_within, follows_over, before_from, after_from, before_within, one_neighbour}
 use Rattle.i_shape_core.proofs.Removal.WithoutBack.{HasNoBack, none_in_a_row, zero_turn_straight, no_back_after_step}
 
@@ -19,7 +19,7 @@ alike_negated x y x' y' e f a = record {
 -- removing the straight point p after a keeps which way a turns
 cross_before_straight : (x a p b : Point) → cross a p b ≡ pos 0 → pos 0 <ℤ dot a p b → (a ≡ p → ⊥) → Alike (cross x a b) (cross x a p)
 cross_before_straight x a p b e l apart = alike_scaled (way_squared a p +ℤ dot a p b) (way_squared a p) (cross x a b) (cross x a p)
-    (sum_above (way_squared a p) (dot a p b) (square_at_least a p) l) (above (way_squared a p) (square_at_least a p) (λ z. apart (no_way a p z)))
+    (sum_above (way_squared a p) (dot a p b) (square_at_least a p) l) (above (way_squared a p) (square_at_least a p) (λ z. apart (equal_of_distance a p z)))
     (drop_last (way_squared a p *ℤ cross x a b) ((way_squared a p +ℤ dot a p b) *ℤ cross x a p) (dot x a p) (cross a p b) (straight_cross x a p b) e)
   where
     above : (q : ℤ) → pos 0 ≤ℤ q → (q ≡ pos 0 → ⊥) → pos 0 <ℤ q

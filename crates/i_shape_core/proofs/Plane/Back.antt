@@ -21,9 +21,9 @@ unfolding way_squared
 square_at_least a b = squares_not_negative (b.x -ℤ a.x) (b.y -ℤ a.y)
 
 -- points at distance 0 are equal
-pub no_way : (a b : Point) → way_squared a b ≡ pos 0 → a ≡ b
+pub equal_of_distance : (a b : Point) → way_squared a b ≡ pos 0 → a ≡ b
 unfolding way_squared
-no_way a b e = let z = squares_zero (b.x -ℤ a.x) (b.y -ℤ a.y) e in
+equal_of_distance a b e = let z = squares_zero (b.x -ℤ a.x) (b.y -ℤ a.y) e in
     sym (same_point b a (equal_of_difference b.x a.x z.0) (equal_of_difference b.y a.y z.1))
 
 -- the product of two squared lengths is the sum of the squared cross and dot products
@@ -70,8 +70,8 @@ pub back_cases : (a b c : Point) → IsBack a b c → (a ≡ b) ⊎ ((b ≡ c) �
 back_cases a b c h = go (sign (dot a b c) h.1)
   where
     points : (way_squared a b ≡ pos 0) ⊎ (way_squared b c ≡ pos 0) → (a ≡ b) ⊎ ((b ≡ c) ⊎ ((cross a b c ≡ pos 0) × (dot a b c <ℤ pos 0)))
-    points (inl e) = inl (no_way a b e)
-    points (inr e) = inr (inl (no_way b c e))
+    points (inl e) = inl (equal_of_distance a b e)
+    points (inr e) = inr (inl (equal_of_distance b c e))
 
     go : (dot a b c ≡ pos 0) ⊎ (dot a b c <ℤ pos 0) → (a ≡ b) ⊎ ((b ≡ c) ⊎ ((cross a b c ≡ pos 0) × (dot a b c <ℤ pos 0)))
     go (inr l) = inr (inr (h.0, l))

@@ -72,7 +72,7 @@ one_nearer i first a b total w n e =
     let y = e.least in
     record { most = omega (arith, ints); least = omega (arith, ints) }
 
--- one more edge keeps the total near
+-- one more edge keeps the total as near to 0 as `IsNear` says
 pub near_step : (p a b : Point) (i : ℕ) (first total : ℤ) → IsNear i first (level p a) total → IsNear (i + 1) first (level p b) (total +ℤ winding_of_edge p (edge a b))
 near_step p a b i first total n = one_nearer i first (level p a) (level p b) total (winding_of_edge p (edge a b)) n (edge_near p a b)
 
@@ -80,7 +80,7 @@ near_step p a b i first total n = one_nearer i first (level p a) (level p b) tot
 pub near_first : (first : ℤ) → IsNear 0 first first (pos 0)
 near_first first = record { most = omega (arith, ints); least = omega (arith, ints) }
 
--- the total of a path is near
+-- what the edges of a path add up to is as near to 0 as `IsNear` says
 path_near : (p a : Point) (bs : List Point) (z : Point) → IsNear (suc (length bs)) (level p a) (level p z) (sum_of (winding_of_edge p) (edges_between a bs z))
 path_near p a [] z =
     let one = edge_near p a z in

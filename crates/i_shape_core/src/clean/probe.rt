@@ -26,7 +26,8 @@ pub struct Probe<'a, I: IntNumber, P: ContourPoint<Coordinate = I> = IntPoint<I>
     count: u128,
 }
 
-/// A point of a probe's contour, which a walk keeps from one turn to the next. Only a probe sees its coordinates.
+/// A point of a probe's contour, which a walk keeps from one turn to the next: it reads one point a step in place of
+/// three. Only a probe sees its coordinates.
 #[derive(Drop)]
 pub(crate) struct HeldPoint<I: IntNumber> {
     point: IntPoint<I>,

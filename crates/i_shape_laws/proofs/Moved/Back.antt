@@ -33,8 +33,8 @@ dot_moved m a b c = by_polynomials (numbers_of_move a b c m)
     (plus (times (square_term (new_place A) (new_place B)) (dot_term A B C)) (times skew_term (cross_term A B C))) refl
 
 -- points whose squared distance is at most 0 are equal
-pub no_way : (a p : Point) → way_squared a p ≤ℤ pos 0 → a ≡ p
-no_way a p h = plane.no_way a p (omega (arith, ints, square_at_least a p))
+pub equal_of_low_distance : (a p : Point) → way_squared a p ≤ℤ pos 0 → a ≡ p
+equal_of_low_distance a p h = plane.equal_of_distance a p (omega (arith, ints, square_at_least a p))
 
 dot_standing_still : (a b c : Point) → a ≡ b → dot a b c ≤ℤ pos 0
 dot_standing_still a b c e = subst (λ (x : Point). dot a x c ≤ℤ pos 0) e (low_of_zero (dot a a c) (dot_same-first a c))
@@ -45,7 +45,7 @@ back_moved m a b c (z, d) = (
   zero_moved m a b c z,
   by_lt_z (pos 0) (way_squared a b)
       (λ h. not_positive_of (way_squared (moved_point m a) (moved_point m b)) (way_squared a b) (dot a b c) _ (square_at_least _ _) h (sym (drop_last _ _ _ _ (dot_moved m a b c) z)) d)
-      (λ h. dot_standing_still (moved_point m a) (moved_point m b) (moved_point m c) (ap (moved_point m) (no_way a b h))),
+      (λ h. dot_standing_still (moved_point m a) (moved_point m b) (moved_point m c) (ap (moved_point m) (equal_of_low_distance a b h))),
 )
 
 -- at a move with a determinant other than 0 only back vertices become back vertices
@@ -55,12 +55,12 @@ back_back m some a b c (z, d) =
       z',
       by_lt_z (pos 0) (way_squared (moved_point m a) (moved_point m b))
           (λ h. not_positive_of (way_squared a b) (way_squared (moved_point m a) (moved_point m b)) (dot (moved_point m a) (moved_point m b) (moved_point m c)) _ (square_at_least _ _) h (drop_last _ _ _ _ (dot_moved m a b c) z') d)
-          (λ h. dot_standing_still a b c (moved_apart m some a b (no_way (moved_point m a) (moved_point m b) h))),
+          (λ h. dot_standing_still a b c (moved_apart m some a b (equal_of_low_distance (moved_point m a) (moved_point m b) h))),
     )
 
 -- ---- reversals
 not_still : (a b c : Point) → dot a b c <ℤ pos 0 → pos 0 <ℤ way_squared a b
-not_still a b c h = by_lt_z (pos 0) (way_squared a b) (λ l. l) (λ l. absurd (zero_not_below (dot a b c) (subst (λ (x : Point). dot a x c ≡ pos 0) (no_way a b l) (dot_same-first a c)) h))
+not_still a b c h = by_lt_z (pos 0) (way_squared a b) (λ l. l) (λ l. absurd (zero_not_below (dot a b c) (subst (λ (x : Point). dot a x c ≡ pos 0) (equal_of_low_distance a b l) (dot_same-first a c)) h))
 
 same_sign : (m : Move) (a b c : Point) → cross a b c ≡ pos 0 → pos 0 <ℤ way_squared a b → pos 0 <ℤ way_squared (moved_point m a) (moved_point m b)
     → int_lt (dot (moved_point m a) (moved_point m b) (moved_point m c)) (pos 0) ≡ int_lt (dot a b c) (pos 0)
@@ -77,10 +77,10 @@ no_square a b e h = zero_not_above (way_squared a b) (sym (ap (λ (x : Point). w
     zero a = by_polynomials (coordinates (a ∷ [])) (square_term A A) (number (pos 0)) refl
 
 apart_squares : (m : Move) → determinant m ≢ pos 0 → (a b : Point) → pos 0 <ℤ way_squared a b → pos 0 <ℤ way_squared (moved_point m a) (moved_point m b)
-apart_squares m some a b h = by_lt_z (pos 0) (way_squared (moved_point m a) (moved_point m b)) (λ l. l) (λ l. absurd (no_square a b (moved_apart m some a b (no_way (moved_point m a) (moved_point m b) l)) h))
+apart_squares m some a b h = by_lt_z (pos 0) (way_squared (moved_point m a) (moved_point m b)) (λ l. l) (λ l. absurd (no_square a b (moved_apart m some a b (equal_of_low_distance (moved_point m a) (moved_point m b) l)) h))
 
 squares_apart : (m : Move) (a b : Point) → pos 0 <ℤ way_squared (moved_point m a) (moved_point m b) → pos 0 <ℤ way_squared a b
-squares_apart m a b h = by_lt_z (pos 0) (way_squared a b) (λ l. l) (λ l. absurd (no_square (moved_point m a) (moved_point m b) (ap (moved_point m) (no_way a b l)) h))
+squares_apart m a b h = by_lt_z (pos 0) (way_squared a b) (λ l. l) (λ l. absurd (no_square (moved_point m a) (moved_point m b) (ap (moved_point m) (equal_of_low_distance a b l)) h))
 
 -- a move with a determinant other than 0 keeps reversals
 pub reverses_moved : (m : Move) → determinant m ≢ pos 0 → Carries (moved_point m) IsReversed IsReversed

@@ -19,7 +19,7 @@ use Rattle.i_shape_core.proofs.Removal.Places.{after_is, Follows}
 use Rattle.i_shape_core.proofs.Moved.ZeroTurns.{cross_moved}
 use Rattle.i_shape_core.proofs.Plane.Back.{way_squared, square_term, dot_same-first}
 use Rattle.i_shape_laws.specs.Moved.{WindingMoved}
-use Rattle.i_shape_laws.proofs.Moved.Back.{no_way}
+use Rattle.i_shape_laws.proofs.Moved.Back.{equal_of_low_distance}
 
 -- ---- what an edge adds, by which of its ends are above the point, and the side of the edge that the point is on
 abbrev crossing : Bool → Bool → Bool → Bool → ℤ
@@ -134,7 +134,7 @@ same_side l a p b z off = go (int_lt (dot a p b) (pos 0)) refl
     go true e =
         let ways = drop_last (way_squared p a *ℤ rise l p b) (neg_ℤ (dot a p b) *ℤ rise l p a) _ (cross a p b) (in_line l a p b) z in
         let there : pos 0 <ℤ neg_ℤ (dot a p b) = omega (arith, ints) in
-        let apart : pos 0 <ℤ way_squared p a = by_lt_z (pos 0) (way_squared p a) (λ h. h) (λ h. absurd (back (no_way p a h) e)) in
+        let apart : pos 0 <ℤ way_squared p a = by_lt_z (pos 0) (way_squared p a) (λ h. h) (λ h. absurd (back (equal_of_low_distance p a h) e)) in
         let alike = alike_scaled (way_squared p a) (neg_ℤ (dot a p b)) (rise l p a) (rise l p b) apart there (sym ways) in
         sym (above (dot_of l p) (dot_of l a)) ∙ alike.above ∙ above (dot_of l p) (dot_of l b)
 
