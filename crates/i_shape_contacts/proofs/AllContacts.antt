@@ -5,7 +5,7 @@ use Rattle.std.proofs.lemmas.List.{take-append-drop, take-append-le, take_all, d
 use Rattle.std.proofs.lemmas.List.Elements.{Contains-append_left}
 use Rattle.std.proofs.Math.Seq.{get_or-append_seam}
 use Rattle.i_shape_contacts.specs.declared.plain.Contact.{Contact}
-use Rattle.i_shape_contacts.specs.Listing.{AreBefore, AreContacts, AreWritten, Earlier}
+use Rattle.i_shape_contacts.specs.Listing.{AreBefore, AreContacts, AreWritten, ListsContacts, Earlier}
 
 -- ---- the list
 -- before all edges there are no contacts
@@ -106,6 +106,26 @@ row_started Touch i list order = same_contacts (Earlier Touch i 0) (Earlier Touc
     from : (k l : ℕ) → Earlier Touch i (i + 1) k l → Earlier Touch i 0 k l
     from k l (t, inl h) = (t, inl h)
     from k l (t, inr h) = absurd (let same = h.0 in let less = h.1 in let up = order k l t in omega (arith, same, less, up))
+
+-- an edge is in contact with none from one to below another
+pub lists_between : (Touch : ℕ → ℕ → Type 0) (i j j' : ℕ) (old new : List Contact) (count : ℕ) → j ≤ j' → ((l : ℕ) → j ≤ l → l < j' → Touch i l → ⊥)
+    → ListsContacts (2 ^ 64 - 1) (Earlier Touch i j) old new count → ListsContacts (2 ^ 64 - 1) (Earlier Touch i j') old new count
+lists_between Touch i j j' old new count up none listed = record {
+  contacts = listed.contacts;
+  are = same_contacts (Earlier Touch i j) (Earlier Touch i j') listed.contacts to from listed.are;
+  are_written = listed.are_written;
+}
+  where
+    to : (k l : ℕ) → Earlier Touch i j k l → Earlier Touch i j' k l
+    to k l (t, inl h) = (t, inl h)
+    to k l (t, inr h) = (t, inr (h.0, let less = h.1 in omega (arith, less, up)))
+
+    from : (k l : ℕ) → Earlier Touch i j' k l → Earlier Touch i j k l
+    from k l (t, inl h) = (t, inl h)
+    from k l (t, inr h) = elim (cases_lt l j) [
+      | inl less ↦ (t, inr (h.0, less))
+      | inr more ↦ absurd (none l more h.1 (subst (λ (n : ℕ). Touch n l) h.0 t))
+    ]
 
 -- if no edge is in contact with one from n on, the contacts before i and n are those before i + 1 and 0
 pub row_ended : (Touch : ℕ → ℕ → Type 0) (i n : ℕ) (list : List Contact) → ((k l : ℕ) → Touch k l → l < n) → AreContacts (Earlier Touch i n) list → AreContacts (Earlier Touch (i + 1) 0) list

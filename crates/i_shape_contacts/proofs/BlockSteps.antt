@@ -7,7 +7,7 @@ use Rattle.i_shape_contacts.specs.declared.boxes.Bounds.{Bounds}
 use Rattle.i_shape_contacts.specs.declared.boxes.Block.{Block}
 use Rattle.i_shape_contacts.specs.Meeting.{Meet}
 use Rattle.i_shape_contacts.specs.Contacts.{IsContactBy}
-use Rattle.i_shape_contacts.specs.Steps.Boxes.{Holds, AreApart, HoldsEdge, IsBlock, AreBlocks}
+use Rattle.i_shape_contacts.specs.Steps.Boxes.{Holds, AreApart, HoldsEdge, HoldsRanks, IsBlock, AreBlocks}
 use Rattle.i_shape_contacts.proofs.Apart.{apart_x, apart_y, meet_swapped}
 use Rattle.i_shape_contacts.proofs.ContactTests.{share_meets}
 
@@ -20,21 +20,33 @@ module _ {I : Type 0} (value : I → ℤ) (Follows : ℕ → ℕ → Type 0) (c 
   apart_edges a b i i' m m' (inr (inr (inl h))) p q f g w = apart_y _ _ _ _ (value a.high.y) (value b.low.y) p.start.above (p.end i' f).above h q.start.below (q.end m' g).below w
   apart_edges a b i i' m m' (inr (inr (inr h))) p q f g w = apart_y _ _ _ _ (value b.high.y) (value a.low.y) q.start.above (q.end m' g).above h p.start.below (p.end i' f).below (meet_swapped _ _ _ _ w)
 
+  -- an edge is in contact with none in a box beside it
+  pub none_apart : (a b : Bounds I) (i k to : ℕ) → AreApart value a b → HoldsEdge value Follows a c i → HoldsRanks value Follows b c (λ m. m) k to → (m : ℕ) → k ≤ m → m < to → IsContactBy Follows c i m → ⊥
+  none_apart a b i k to apart edge holds m l h w = apart_edges a b i w.first_end m w.second_end apart edge (holds m l h w.within) w.first_follows w.second_follows (share_meets c i w.first_end m w.second_end w.shared)
+
 module _ {I : Type 0} (value : I → ℤ) (Follows : ℕ → ℕ → Type 0) (c : List Point) (at : ℕ → ℕ) where
-  -- what an edge is in contact with below a rank is at least `least`
-  pub least_further : (a : Bounds I) (b : Block I) (i k least : ℕ) → AreApart value a b.bounds → HoldsEdge value Follows a c i → IsBlock value Follows c at k b
-      → ((m : ℕ) → m < k → IsContactBy Follows c i (at m) → least ≤ at m) → (m : ℕ) → m < b.next → IsContactBy Follows c i (at m) → least ≤ at m
-  least_further a b i k least apart edge block before m h w = elim (cases_lt m k) [
-    | inl l ↦ before m l w
-    | inr l ↦ absurd (apart_edges value Follows c a b.bounds i w.first_end (at m) w.second_end apart edge (block.holds m l h) w.first_follows w.second_follows (share_meets c i w.first_end (at m) w.second_end w.shared))
+  -- what an edge is in contact with below a rank is at least `least`, and it is in contact with none in a box beside it
+  pub least_further : (a b : Bounds I) (i k to least : ℕ) → AreApart value a b → HoldsEdge value Follows a c i → HoldsRanks value Follows b c at k to
+      → ((m : ℕ) → m < k → m < length c → IsContactBy Follows c i (at m) → least ≤ at m) → (m : ℕ) → m < to → m < length c → IsContactBy Follows c i (at m) → least ≤ at m
+  least_further a b i k to least apart edge holds before m h n w = elim (cases_lt m k) [
+    | inl l ↦ before m l n w
+    | inr l ↦ absurd (apart_edges value Follows c a b i w.first_end (at m) w.second_end apart edge (holds m l h n) w.first_follows w.second_follows (share_meets c i w.first_end (at m) w.second_end w.shared))
+  ]
+
+  -- a chunk more
+  pub least_chunk : (i from to end least after : ℕ) → after ≤ least → ((m : ℕ) → m < end → m < length c → m < to) → ((m : ℕ) → m < from → m < length c → IsContactBy Follows c i (at m) → least ≤ at m)
+      → ((m : ℕ) → from ≤ m → m < to → IsContactBy Follows c i (at m) → after ≤ at m) → (m : ℕ) → m < end → m < length c → IsContactBy Follows c i (at m) → after ≤ at m
+  least_chunk i from to end least after less all before here m h n w = elim (cases_lt m from) [
+    | inl l ↦ (let old = before m l n w in omega (arith, old, less))
+    | inr l ↦ here m l (all m h n) w
   ]
 
   -- one rank more
-  pub least_more : (i k least after : ℕ) → after ≤ least → ((m : ℕ) → m < k → IsContactBy Follows c i (at m) → least ≤ at m) → (IsContactBy Follows c i (at k) → after ≤ at k)
-      → (m : ℕ) → m < k + 1 → IsContactBy Follows c i (at m) → after ≤ at m
-  least_more i k least after less before here m h w = elim (cases_eq m k) [
+  pub least_more : (i from k least after : ℕ) → after ≤ least → ((m : ℕ) → from ≤ m → m < k → IsContactBy Follows c i (at m) → least ≤ at m) → (IsContactBy Follows c i (at k) → after ≤ at k)
+      → (m : ℕ) → from ≤ m → m < k + 1 → IsContactBy Follows c i (at m) → after ≤ at m
+  least_more i from k least after less before here m l h w = elim (cases_eq m k) [
     | inl e ↦ subst (λ (j : ℕ). after ≤ at j) (sym e) (here (subst (λ (j : ℕ). IsContactBy Follows c i (at j)) e w))
-    | inr n ↦ (let old = before m (omega (arith, h, n)) w in omega (arith, old, less))
+    | inr n ↦ (let old = before m l (omega (arith, h, n)) w in omega (arith, old, less))
   ]
 
   -- the first edge of a block alone
@@ -48,6 +60,14 @@ module _ {I : Type 0} (value : I → ℤ) (Follows : ℕ → ℕ → Type 0) (c 
   edges_joined a b r k n n' from_a from_b first second m h l = elim (cases_lt m n) [
     | inl s ↦ (let e = first m h s in record { start = from_a _ e.start; end = λ k f. from_a _ (e.end k f) })
     | inr s ↦ (let e = second m s l in record { start = from_b _ e.start; end = λ k f. from_b _ (e.end k f) })
+  ]
+
+  -- the same, by ranks
+  pub ranks_joined : (a b r : Bounds I) (k n n' : ℕ) → ((p : Point) → Holds value a p → Holds value r p) → ((p : Point) → Holds value b p → Holds value r p)
+      → HoldsRanks value Follows a c at k n → HoldsRanks value Follows b c at n n' → HoldsRanks value Follows r c at k n'
+  ranks_joined a b r k n n' from_a from_b first second m h l inside = elim (cases_lt m n) [
+    | inl s ↦ (let e = first m h s inside in record { start = from_a _ e.start; end = λ k f. from_a _ (e.end k f) })
+    | inr s ↦ (let e = second m s l inside in record { start = from_b _ e.start; end = λ k f. from_b _ (e.end k f) })
   ]
 
   -- one block more, before the others

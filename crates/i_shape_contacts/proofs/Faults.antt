@@ -37,7 +37,7 @@ divides_read value point points each list offsets d = subst (λ n. DividesPoints
 pub untrue : IsTrue false → ⊥
 untrue t = absurd (cc)
 
--- what a test that said no tells
+-- if a test of Q returns false, Q doesn't hold
 pub not_by_test : {Q : Type 0} (b : Bool) → (IsTrue b ↔ Q) → b ≡ false → Q → ⊥
 not_by_test b tells fails q = let t : IsTrue b = tells.1 q in absurd (cc)
 

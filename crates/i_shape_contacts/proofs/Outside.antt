@@ -8,7 +8,6 @@ use Rattle.i_shape_core.specs.Contour.{point_at}
 use Rattle.i_shape_core.specs.Edges.{edges_between, sum_of}
 use Rattle.i_shape_core.specs.IntPoint.{point_of}
 use Rattle.i_shape_core.specs.Winding.{winding, winding_of_edge}
-use Rattle.i_shape_core.proofs.Plane.CrossProducts.{edge}
 use Rattle.i_shape_core.proofs.Sums.Windings.{flat}
 use Rattle.i_shape_contacts.specs.Steps.Boxes.{IsWithin, Holds, AreApart}
 use Rattle.i_shape_contacts.specs.declared.boxes.Bounds.{Bounds}

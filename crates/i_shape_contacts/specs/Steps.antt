@@ -1,4 +1,4 @@
--- What the searches for a contact keep, of which no call for users speaks.
+-- What the searches for a contact keep, which no call for users cites.
 pub mod Boxes
 pub mod Chunks
 pub mod Deciding

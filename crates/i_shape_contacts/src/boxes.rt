@@ -15,9 +15,10 @@ pub struct Bounds<I> {
     pub high: IntPoint<I>,
 }
 
-/// The box of some edges that follow one another, and the place after the last of them.
+/// Some chunks that follow one another: the box of the first, the box of all, and the index of the chunk after them.
 #[derive(Clone, Copy)]
 pub struct Block<I> {
+    pub own: Bounds<I>,
     pub bounds: Bounds<I>,
     pub next: usize,
 }

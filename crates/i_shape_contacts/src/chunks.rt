@@ -1,22 +1,20 @@
-//! Whether there is a contact at all, by chunks of edges in an order.
+//! Whether there is a contact at all, by chunks of edges in an order. Contracts state what `false` and `None` mean; after
+//! another result the search by blocks decides.
 
-ghost use Rattle.std.specs.Prelude.{◌≡◌, ◌<◌, ◌≤◌, ◌+◌, ◌↔◌, ℕ, length, false, IsTrue};
+ghost use Rattle.std.specs.Prelude.{◌≡◌, ◌<◌, ◌≤◌, ◌+◌, ◌*◌, ◌↔◌, ℕ, length, false, IsTrue, MatchOption};
 ghost use Rattle.i_shape_core.specs.IntPoint.{IsSafeContour};
 ghost use Rattle.i_shape_core.specs.Reading.{read};
 ghost use Rattle.i_shape_contacts.specs.Contacts.{IsContactBy, NoContact};
 ghost use Rattle.i_shape_contacts.specs.Steps.Orders.{IsOrder};
-ghost use Rattle.i_shape_contacts.specs.Steps.Boxes.{HoldsEdge, AreBlocks};
-ghost use Rattle.i_shape_contacts.specs.Steps.Chunks.{Touch, NoneTouch};
+ghost use Rattle.i_shape_contacts.specs.Steps.Boxes.{HoldsEdge, AreBlocks, CountsChunks};
+ghost use Rattle.i_shape_contacts.specs.Steps.Chunks.{Touch, NoneTouch, NoneBehind};
 
-use crate::blocks::bounds_of_edge;
+use crate::blocks::{CHUNK, bounds_of_edge, chunk_end};
 use crate::boxes::{Block, Bounds, are_apart, joined};
 use crate::course::Course;
 use crate::order::Order;
 use crate::plain::are_in_contact;
 use i_shape_core::point::ContourPoint;
-
-/// How many edges a chunk has.
-const CHUNK: usize = 8;
 
 /// Returns whether the edges at two places are in contact, whichever comes first.
 fn do_touch<P: ContourPoint, C: Course>(points: &[P], course: C, a: usize, b: usize) -> bool
@@ -36,33 +34,6 @@ fn do_touch<P: ContourPoint, C: Course>(points: &[P], course: C, a: usize, b: us
     } else {
         false
     }
-}
-
-/// Returns a box that holds the edges of a chunk.
-fn bounds_of_chunk<P: ContourPoint, C: Course, O: Order>(
-    points: &[P],
-    course: C,
-    order: O,
-    from: usize,
-    to: usize,
-) -> Bounds<P::Coordinate>
-    requires safe { IsSafeContour P.Coordinate.width
-        (read P.Coordinate.value P.points points.now) }
-    requires can { C.can_follow course }
-    requires count { C.count course ≡ length points.now }
-    requires ordered { IsOrder (O.count order) (O.edge_at order) (length points.now) }
-    requires some { from < to }
-    requires within { to ≤ length points.now }
-    ensures { (k : ℕ) → from ≤ k → k < to → HoldsEdge P.Coordinate.value (C.follows course) result
-        (read P.Coordinate.value P.points points.now) (O.edge_at order k) }
-{
-    let start = order.edge(from);
-    let mut bounds = bounds_of_edge(points, course, start);
-    for rank in from + 1..to {
-        let edge = order.edge(rank);
-        bounds = joined(bounds, bounds_of_edge(points, course, edge));
-    }
-    bounds
 }
 
 /// Returns whether the edge at a rank is in contact with one of a chunk before it, all of whose edges are in a box.
@@ -100,36 +71,51 @@ fn touches_chunk<P: ContourPoint, C: Course, O: Order>(
     false
 }
 
-/// Returns the lesser of two ranks.
-fn lesser_rank(a: usize, b: usize) -> usize
-    ensures first { result ≤ a }
-    ensures second { result ≤ b }
-    ensures either { (k : ℕ) → k < a → k < b → k < result }
-{
-    if b < a { b } else { a }
-}
-
-/// Returns the rank after the last one of the chunk that begins at a rank.
-fn chunk_end(from: usize, count: usize) -> usize
-    requires { from < count }
-    ensures further { from < result }
-    ensures within { result ≤ count }
-{
-    if count - from > CHUNK {
-        from + CHUNK
-    } else {
-        count
-    }
-}
-
-/// Returns whether an edge of a chunk is in contact with one after it at a rank from `start` to below `end`.
-fn touches_between<P: ContourPoint, C: Course, O: Order>(
+/// Returns whether two edges of a chunk are in contact. Each edge is tried with the one before it, and
+/// with those further back only if it meets their box.
+fn does_chunk_touch<P: ContourPoint, C: Course, O: Order>(
     points: &[P],
     course: C,
     order: O,
-    blocks: &[Block<P::Coordinate>],
     from: usize,
     to: usize,
+) -> bool
+    requires safe { IsSafeContour P.Coordinate.width
+        (read P.Coordinate.value P.points points.now) }
+    requires can { C.can_follow course }
+    requires count { C.count course ≡ length points.now }
+    requires ordered { IsOrder (O.count order) (O.edge_at order) (length points.now) }
+    requires some { from < to }
+    requires within { to ≤ length points.now }
+    ensures { result ≡ false → NoneTouch (C.follows course)
+        (read P.Coordinate.value P.points points.now) (O.edge_at order) from to from to }
+{
+    let mut before = order.edge(from);
+    let mut last = bounds_of_edge(points, course, before);
+    let mut bounds = last;
+    for rank in from + 1..to {
+        let edge = order.edge(rank);
+        if do_touch(points, course, before, edge) {
+            return true;
+        }
+        if touches_chunk(points, course, order, from, rank - 1, bounds, rank) {
+            return true;
+        }
+        bounds = joined(bounds, last);
+        last = bounds_of_edge(points, course, edge);
+        before = edge;
+    }
+    false
+}
+
+/// Returns whether an edge of a chunk is in contact with one after it at a rank from `start` to below `end`.
+fn touches_ranks<P: ContourPoint, C: Course, O: Order>(
+    points: &[P],
+    course: C,
+    order: O,
+    from: usize,
+    to: usize,
+    bounds: Bounds<P::Coordinate>,
     start: usize,
     end: usize,
 ) -> bool
@@ -138,88 +124,132 @@ fn touches_between<P: ContourPoint, C: Course, O: Order>(
     requires can { C.can_follow course }
     requires count { C.count course ≡ length points.now }
     requires ordered { IsOrder (O.count order) (O.edge_at order) (length points.now) }
-    requires blocks_count { length blocks.now ≡ length points.now }
-    requires are_blocks { AreBlocks P.Coordinate.value (C.follows course)
-        (read P.Coordinate.value P.points points.now) (O.edge_at order) 0 blocks.now }
-    requires some { from < to }
     requires within { to ≤ length points.now }
     requires end_within { end ≤ length points.now }
+    requires held { (k : ℕ) → from ≤ k → k < to → HoldsEdge P.Coordinate.value (C.follows course) bounds
+        (read P.Coordinate.value P.points points.now) (O.edge_at order k) }
     ensures { result ≡ false → NoneTouch (C.follows course)
         (read P.Coordinate.value P.points points.now) (O.edge_at order) from to start end }
 {
-    let bounds = bounds_of_chunk(points, course, order, from, to);
-    let mut rank = start;
-    while rank < end {
-        let block = blocks[rank];
+    for rank in start..end {
+        if touches_chunk(points, course, order, from, to, bounds, rank) {
+            return true;
+        }
+    }
+    false
+}
+
+/// Returns the greater of two ranks.
+pub(crate) fn greater_rank(a: usize, b: usize) -> usize
+    ensures first { a ≤ result }
+    ensures second { b ≤ result }
+    ensures either { (k : ℕ) → a ≤ k → b ≤ k → result ≤ k }
+{
+    if a < b { b } else { a }
+}
+
+/// Returns whether an edge of a chunk is in contact with one of a chunk behind it, from the rank `start` on.
+fn touches_behind<P: ContourPoint, C: Course, O: Order>(
+    points: &[P],
+    course: C,
+    order: O,
+    blocks: &[Block<P::Coordinate>],
+    chunk: usize,
+    to: usize,
+    start: usize,
+) -> bool
+    requires safe { IsSafeContour P.Coordinate.width
+        (read P.Coordinate.value P.points points.now) }
+    requires can { C.can_follow course }
+    requires count { C.count course ≡ length points.now }
+    requires ordered { IsOrder (O.count order) (O.edge_at order) (length points.now) }
+    requires blocks_count { CountsChunks (length blocks.now) (length points.now) }
+    requires are_blocks { AreBlocks P.Coordinate.value (C.follows course)
+        (read P.Coordinate.value P.points points.now) (O.edge_at order) 0 blocks.now }
+    requires chunk_within { chunk * 8 < length points.now }
+    requires within { to ≤ length points.now }
+    requires least { to ≤ chunk * 8 + 8 }
+    requires most { (k : ℕ) → k < chunk * 8 + 8 → k < length points.now → k < start }
+    ensures { result ≡ false → NoneTouch (C.follows course)
+        (read P.Coordinate.value P.points points.now) (O.edge_at order) (chunk * 8) to start (length points.now) }
+{
+    let from = chunk * CHUNK;
+    let bounds = blocks[chunk].own;
+    let mut other = chunk + 1;
+    while other < blocks.len() {
+        let block = blocks[other];
         if are_apart(bounds, block.bounds) {
-            rank = block.next;
+            other = block.next;
             continue;
         }
-        let until = lesser_rank(rank, to);
-        if touches_chunk(points, course, order, from, until, bounds, rank) {
+        if are_apart(bounds, block.own) {
+            other += 1;
+            continue;
+        }
+        let rank = other * CHUNK;
+        let least = greater_rank(start, rank);
+        let end = chunk_end(rank, points.len());
+        if touches_ranks(points, course, order, from, to, bounds, least, end) {
             return true;
         }
-        rank += 1;
+        other += 1;
     }
     false
 }
 
-/// Returns whether an edge of a chunk is in contact with one after it: each with those of the chunk, then all with those
-/// behind it.
-fn does_chunk_touch<P: ContourPoint, C: Course, O: Order>(
+/// Returns whether an edge of a chunk is in contact with one of it or behind it. The edge behind the chunk is tried with
+/// those of the chunk.
+fn touches_any<P: ContourPoint, C: Course, O: Order>(
     points: &[P],
     course: C,
     order: O,
     blocks: &[Block<P::Coordinate>],
-    from: usize,
-    to: usize,
+    chunk: usize,
 ) -> bool
     requires safe { IsSafeContour P.Coordinate.width
         (read P.Coordinate.value P.points points.now) }
     requires can { C.can_follow course }
     requires count { C.count course ≡ length points.now }
     requires ordered { IsOrder (O.count order) (O.edge_at order) (length points.now) }
-    requires blocks_count { length blocks.now ≡ length points.now }
+    requires blocks_count { CountsChunks (length blocks.now) (length points.now) }
     requires are_blocks { AreBlocks P.Coordinate.value (C.follows course)
         (read P.Coordinate.value P.points points.now) (O.edge_at order) 0 blocks.now }
-    requires some { from < to }
-    requires within { to ≤ length points.now }
-    ensures { result ≡ false → NoneTouch (C.follows course)
-        (read P.Coordinate.value P.points points.now) (O.edge_at order) from to from (length points.now) }
+    requires chunk_within { chunk * 8 < length points.now }
+    ensures { result ≡ false → (k r : ℕ) → chunk * 8 ≤ k → k < chunk * 8 + 8 → k < r → r < length points.now
+        → Touch (C.follows course) (read P.Coordinate.value P.points points.now) (O.edge_at order k) (O.edge_at order r) → ⊥ }
 {
-    for rank in from..to {
-        if touches_between(points, course, order, blocks, rank, rank + 1, rank + 1, to) {
-            return true;
-        }
+    let from = chunk * CHUNK;
+    let to = chunk_end(from, points.len());
+    let start = if to < points.len() { to + 1 } else { to };
+    if does_chunk_touch(points, course, order, from, start) {
+        return true;
     }
-    touches_between(points, course, order, blocks, from, to, to, points.len())
+    touches_behind(points, course, order, blocks, chunk, to, start)
 }
 
-/// Returns false only if no two edges are in contact.
-pub(crate) fn may_have_contact<P: ContourPoint, C: Course, O: Order>(
+/// Returns the first rank of the first chunk of which an edge is in contact with one of it or behind it.
+pub(crate) fn first_touching<P: ContourPoint, C: Course, O: Order>(
     points: &[P],
     course: C,
     order: O,
     blocks: &[Block<P::Coordinate>],
-) -> bool
+) -> Option<usize>
     requires safe { IsSafeContour P.Coordinate.width
         (read P.Coordinate.value P.points points.now) }
     requires can { C.can_follow course }
     requires count { C.count course ≡ length points.now }
     requires ordered { IsOrder (O.count order) (O.edge_at order) (length points.now) }
-    requires blocks_count { length blocks.now ≡ length points.now }
+    requires blocks_count { CountsChunks (length blocks.now) (length points.now) }
     requires are_blocks { AreBlocks P.Coordinate.value (C.follows course)
         (read P.Coordinate.value P.points points.now) (O.edge_at order) 0 blocks.now }
-    ensures { result ≡ false
-        → NoContact (IsContactBy (C.follows course) (read P.Coordinate.value P.points points.now)) }
+    ensures { MatchOption result (NoContact (IsContactBy (C.follows course)
+        (read P.Coordinate.value P.points points.now))) (NoneBehind (C.follows course)
+        (read P.Coordinate.value P.points points.now) (O.edge_at order) (length points.now)) }
 {
-    let mut from = 0;
-    while from < points.len() {
-        let to = chunk_end(from, points.len());
-        if does_chunk_touch(points, course, order, blocks, from, to) {
-            return true;
+    for chunk in 0..blocks.len() {
+        if touches_any(points, course, order, blocks, chunk) {
+            return Some(chunk * CHUNK);
         }
-        from = to;
     }
-    false
+    None
 }

@@ -41,8 +41,8 @@ use std::alloc::Global;
 pub use validity::{Validity, validity_of};
 
 /// Returns the first contact of a contour: of the first edge that is in contact with one after it, that with the first
-/// such edge. It takes nearly linear time where few boxes of edges overlap, and allocates a box for each point; where
-/// memory is refused it tries all pairs.
+/// such edge. It takes nearly linear time where few boxes of edges overlap, and allocates boxes for each eight points;
+/// where memory is refused it tries all pairs.
 pub fn first_contact<P: ContourPoint>(alloc: Global, contour: &[P]) -> Option<Contact>
     requires { IsSafeContour P.Coordinate.width
         (read P.Coordinate.value P.points contour.now) }
@@ -144,21 +144,22 @@ pub fn kind_of_contact_of_rings<P: ContourPoint>(
 
 /// Writes the contacts of a contour to the front of `out`, as many as it has room for: by the first edge, and those of
 /// one edge by the second. Behind them `out` is as it was. Returns how many contacts there are, also where this is more
-/// than the room; `usize::MAX` if there are more than that. It takes time quadratic in the points, and allocates
-/// nothing.
-pub fn contacts<P: ContourPoint>(contour: &[P], out: &mut [Contact]) -> usize
+/// than the room; `usize::MAX` if there are more than that. It takes nearly linear time where few boxes of edges overlap
+/// and few edges are in contact, and allocates boxes for each eight points; where memory is refused it tries all pairs.
+pub fn contacts<P: ContourPoint>(alloc: Global, contour: &[P], out: &mut [Contact]) -> usize
     requires { IsSafeContour P.Coordinate.width
         (read P.Coordinate.value P.points contour.now) }
     ensures { ListsContacts (2 ^ 64 - 1) (IsContact
         (read P.Coordinate.value P.points contour.now)) out.old out.new result }
 {
     let count = contour.len();
-    contacts_by(contour, Cycle { count }, out)
+    contacts_by(alloc, contour, Cycle { count }, out)
 }
 
 /// Writes the contacts of the rings into which the offsets divide the points, within one or between two, as `contacts`
 /// does.
 pub fn contacts_of_rings<P: ContourPoint>(
+    alloc: Global,
     points: &[P],
     offsets: &[usize],
     out: &mut [Contact],
@@ -169,5 +170,5 @@ pub fn contacts_of_rings<P: ContourPoint>(
     ensures { ListsContacts (2 ^ 64 - 1) (IsRingContact offsets.now
         (read P.Coordinate.value P.points points.now)) out.old out.new result }
 {
-    contacts_by(points, Rings { offsets }, out)
+    contacts_by(alloc, points, Rings { offsets }, out)
 }

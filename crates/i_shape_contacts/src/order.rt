@@ -19,6 +19,10 @@ pub trait Order: Copy {
     fn start_after(self, edge: usize) -> usize
         requires { edge < count self }
         ensures { (k : ℕ) → k < result → edge_at self k ≤ edge };
+
+    /// Returns an edge before which all edges have ranks before the given one.
+    fn edge_from(self, rank: usize) -> usize
+        ensures { (k : ℕ) → edge_at self k < result → k < rank };
 }
 
 /// So many edges as they are given.
@@ -39,6 +43,10 @@ impl Order for AsGiven {
     fn start_after(self, edge: usize) -> usize {
         edge + 1
     }
+
+    fn edge_from(self, rank: usize) -> usize {
+        rank
+    }
 }
 
 /// Edges in the order of a list.
@@ -57,6 +65,10 @@ impl<'a> Order for Listed<'a> {
     }
 
     fn start_after(self, _edge: usize) -> usize {
+        0
+    }
+
+    fn edge_from(self, _rank: usize) -> usize {
         0
     }
 }

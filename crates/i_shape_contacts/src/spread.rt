@@ -7,13 +7,10 @@ ghost use Rattle.i_shape_core.specs.Reading.{read};
 ghost use Rattle.i_shape_core.specs.Heights.{asks};
 ghost use Rattle.i_shape_contacts.specs.Contacts.{IsContactBy, NoContact, IsFirstContact};
 ghost use Rattle.i_shape_contacts.specs.Steps.Orders.{IsOrder};
-ghost use Rattle.i_shape_contacts.specs.Steps.Boxes.{AreBlocks};
 
-use crate::blocks::{blocks_of, first_by_blocks};
-use crate::boxes::Block;
-use crate::chunks::may_have_contact;
+use crate::blocks::{blocks_of, found_by_blocks};
 use crate::course::Course;
-use crate::order::{Listed, Order};
+use crate::order::Listed;
 use crate::plain::{self, Contact};
 use i_shape_core::heights::{Asked, by_height};
 use i_shape_core::number::IntNumber;
@@ -83,31 +80,6 @@ fn spread_places<P: ContourPoint>(alloc: Global, points: &[P]) -> Result<Vec<usi
     places_of(alloc, &order)
 }
 
-/// Returns the first contact, where the blocks are there: first it is asked by chunks whether there is one.
-fn found_by_blocks<P: ContourPoint, C: Course, O: Order>(
-    points: &[P],
-    course: C,
-    order: O,
-    blocks: &[Block<P::Coordinate>],
-) -> Option<Contact>
-    requires safe { IsSafeContour P.Coordinate.width
-        (read P.Coordinate.value P.points points.now) }
-    requires can { C.can_follow course }
-    requires count { C.count course ≡ length points.now }
-    requires ordered { IsOrder (O.count order) (O.edge_at order) (length points.now) }
-    requires blocks_count { length blocks.now ≡ length points.now }
-    requires are_blocks { AreBlocks P.Coordinate.value (C.follows course)
-        (read P.Coordinate.value P.points points.now) (O.edge_at order) 0 blocks.now }
-    ensures { let contact = IsContactBy (C.follows course) (read P.Coordinate.value P.points points.now) in
-        MatchOption result (NoContact contact) (λ it. IsFirstContact contact it.first it.second) }
-{
-    if may_have_contact(points, course, order, blocks) {
-        first_by_blocks(points, course, order, blocks)
-    } else {
-        None
-    }
-}
-
 /// Returns the first contact of some points. The only error is `AllocError`.
 fn try_first<P: ContourPoint, C: Course>(
     alloc: Global,
@@ -129,8 +101,8 @@ fn try_first<P: ContourPoint, C: Course>(
 }
 
 /// Returns the first contact, as `plain::first_contact_by` does, in nearly linear time where few boxes of edges
-/// overlap, in whatever order the points are. It allocates a box and a place for each point; where memory is refused it
-/// tries all pairs.
+/// overlap, in whatever order the points are. It allocates a place for each point and boxes for each eight; where memory
+/// is refused it tries all pairs.
 pub fn first_contact_by<P: ContourPoint, C: Course>(
     alloc: Global,
     points: &[P],

@@ -5,7 +5,7 @@ use Rattle.i_shape_contacts.proofs.ContactTests.{none_more}
 use Rattle.i_shape_contacts.proofs.blocks.first_by_blocks.Goals as goal
 
 pub loop-first-init : goal.loop-first-init
-loop-first-init g c = λ i j h w. absurd (omega (arith, h))
+loop-first-init g c = c.requires.none_before
 
 pub loop-first-preserved : goal.loop-first-preserved
 loop-first-preserved g c = none_more _ _ c.loop-first.invariant c.in_default.ensures

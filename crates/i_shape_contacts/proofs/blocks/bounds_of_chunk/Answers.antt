@@ -1,7 +1,7 @@
 use Rattle.std.proofs.Common.{◌+◌, arith}
 use Rattle.i_shape_core.specs.IntPoint.{contour_of}
 use Rattle.i_shape_contacts.proofs.BlockSteps.{edge_alone, edges_joined}
-use Rattle.i_shape_contacts.proofs.chunks.bounds_of_chunk.Goals as goal
+use Rattle.i_shape_contacts.proofs.blocks.bounds_of_chunk.Goals as goal
 
 pub edge-start-requires : goal.edge-start-requires
 edge-start-requires g c = omega (arith, c.requires.ordered.count, c.requires.some, c.requires.within)
