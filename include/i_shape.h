@@ -41,7 +41,8 @@ enum {
 };
 
 /* The place of the first offset that is below the one before it or above count; offset_count if there is none. Without
- * offsets it is 0 too, and calls return I_SHAPE_BAD_OFFSETS. For shapes[], count is contour_offset_count - 1. */
+ * offsets it is 0 too, and calls return I_SHAPE_BAD_OFFSETS. For shapes[], count is contour_offset_count - 1;
+ * for features[], it is shape_offset_count - 1. */
 size_t i_shape_first_bad_offset(size_t count, const size_t *offsets, size_t offset_count);
 
 /* Which polygons and contours are left after a call such as i_shape_simplify_contours_iW, which leaves contours that
@@ -97,7 +98,8 @@ static inline double i_shape_halves_to_double(i_shape_halves halves) {
 
 /* One contour. These return the number of points written to the front of out: at least 3, at most count, and 0 if the
  * contour collapses. I_SHAPE_NO_ROOM: room is below count. Behind these points, and after a code, out is as it was.
- * Below three points (despike: four), and for a contour that is clean, no memory is taken. */
+ * Below three points (despike: four), and for a contour that is clean, no memory is taken. Otherwise there is at most
+ * one allocation, of room for its vertices, before anything is written. */
 
 /* Without zero turns: collinear vertices, spikes and repeated points. One result up to rotation, in whatever order they
  * are removed. */
@@ -114,7 +116,9 @@ ptrdiff_t i_shape_canonical_unoriented_i32(const i_shape_point_i32 *points, size
  * out_offsets, from 0 on. A contour that collapses is empty, at its place. These return the number of points written.
  * I_SHAPE_BAD_OFFSETS: offset_count is 0, or an offset is below the one before it or above count. I_SHAPE_NO_ROOM: room
  * is below count, or offset_room below offset_count. Behind these points and offsets nothing is written, nor after a
- * code anywhere. Where each contour is clean or has fewer than three points (despike: four), no memory is taken. */
+ * code anywhere. Where each contour is clean or has fewer than three points (despike: four), no memory is taken.
+ * Otherwise there is at most one allocation, of room for the vertices of the longest that isn't clean, before anything
+ * is written. */
 
 /* For each contour a result of i_shape_simplify_i32; that it is the same one is tested. */
 ptrdiff_t i_shape_simplify_contours_i32(const i_shape_point_i32 *points, size_t count, const size_t *offsets, size_t offset_count, i_shape_point_i32 *out_points, size_t room, size_t *out_offsets, size_t offset_room);
@@ -132,7 +136,9 @@ ptrdiff_t i_shape_canonical_unoriented_contours_i32(const i_shape_point_i32 *poi
  * and their points at out_contours[out_shapes[n]]. I_SHAPE_BAD_OFFSETS and I_SHAPE_NO_ROOM as above, and where the same
  * is wrong of shapes[] over the contours, or of its room. I_SHAPE_UNSAFE: contours that no polygon has are tested too.
  * Behind the result nothing is written, nor after a code. The first two take no memory where each contour of a polygon
- * is clean or has fewer than three points (despike: four), and the others where no polygon has a contour. */
+ * is clean or has fewer than three points (despike: four), and otherwise that of many contours. The others take none
+ * where no polygon has a contour. Otherwise they make at most ten allocations, before they write anything: that room, a
+ * copy of the polygons' points, 40 bytes per contour, at most 136 per polygon, and 16 more. */
 
 /* Without zero turns. */
 ptrdiff_t i_shape_simplify_shapes_i32(const i_shape_point_i32 *points, size_t count, const size_t *contours, size_t contour_offset_count, const size_t *shapes, size_t shape_offset_count, i_shape_point_i32 *out_points, size_t room, size_t *out_contours, size_t contour_room, size_t *out_shapes, size_t shape_room);
@@ -154,6 +160,18 @@ ptrdiff_t i_shape_canonical_unoriented_shapes_i32(const i_shape_point_i32 *point
 ptrdiff_t i_shape_canonical_polygons_i32(const i_shape_point_i32 *points, size_t count, const size_t *contours, size_t contour_offset_count, const size_t *shapes, size_t shape_offset_count, i_shape_point_i32 *out_points, size_t room, size_t *out_contours, size_t contour_room);
 /* The same where a contour may be read backwards too: the lesser of the forms of both ways. */
 ptrdiff_t i_shape_canonical_unoriented_polygons_i32(const i_shape_point_i32 *points, size_t count, const size_t *contours, size_t contour_offset_count, const size_t *shapes, size_t shape_offset_count, i_shape_point_i32 *out_points, size_t room, size_t *out_contours, size_t contour_room);
+
+/* The canonical form of each of many features, which are lists of polygons: features[] divides the polygons into
+ * features. The result lies in out_points, out_contours and out_shapes, from 0 on, and features[] divides its polygons
+ * too. The polygons of a feature are those of i_shape_canonical_shapes_i32, but one that collapses stays, without
+ * contours, and comes first, like those that had none. Polygons that no feature has stay at their places, and contours
+ * that no polygon has are left out. These return the number of polygons, n = shape_offset_count - 1: their contours end
+ * at out_shapes[n], and their points at out_contours[out_shapes[n]]. The codes are those of the calls on polygons, and
+ * I_SHAPE_BAD_OFFSETS also comes where the same is wrong of features[] over the polygons. Where no polygon has a
+ * contour, no memory is taken. */
+ptrdiff_t i_shape_canonical_features_i32(const i_shape_point_i32 *points, size_t count, const size_t *contours, size_t contour_offset_count, const size_t *shapes, size_t shape_offset_count, const size_t *features, size_t feature_offset_count, i_shape_point_i32 *out_points, size_t room, size_t *out_contours, size_t contour_room, size_t *out_shapes, size_t shape_room);
+/* The same where a contour may be read backwards too: the lesser of the forms of both ways. */
+ptrdiff_t i_shape_canonical_unoriented_features_i32(const i_shape_point_i32 *points, size_t count, const size_t *contours, size_t contour_offset_count, const size_t *shapes, size_t shape_offset_count, const size_t *features, size_t feature_offset_count, i_shape_point_i32 *out_points, size_t room, size_t *out_contours, size_t contour_room, size_t *out_shapes, size_t shape_room);
 
 /* Tests of a contour. These return 1 or 0, or I_SHAPE_UNSAFE, and take no memory. */
 
@@ -186,8 +204,8 @@ ptrdiff_t i_shape_winding_i32(const i_shape_point_i32 *points, size_t count, int
 int32_t i_shape_windings_i32(const i_shape_point_i32 *points, size_t count, const size_t *offsets, size_t offset_count, const i_shape_point_i32 *about, size_t about_count, ptrdiff_t *out, size_t room);
 
 /* Which points a fill rule fills, and which lie on an edge. The last two take memory as above, and 8 bytes for each
- * point asked about; if that allocation fails too, they return the same. I_SHAPE_BAD_OFFSETS: there is no such rule,
- * too. */
+ * point asked about, i_shape_locate_iW 16 more, at 64 bits 24; if that allocation fails too, they return the same.
+ * I_SHAPE_BAD_OFFSETS: there is no such rule, too. */
 
 /* Whether the rule fills (x, y), by the winding number around it: 1 or 0, or I_SHAPE_UNSAFE, if that point or one of
  * the contour isn't safe. It takes no memory. */
@@ -210,8 +228,8 @@ int32_t i_shape_locate_in_shapes_i32(const i_shape_point_i32 *points, size_t cou
 
 /* Contacts. An edge leads from each point to the next one, the last edge of a contour to its first point. Two edges are
  * in contact if they share a point other than one at which one of them follows the other: they cross, touch or overlap.
- * The first three calls take memory if there are 16 or more points. If that allocation fails, they return the same, and
- * take longer. */
+ * The calls that search for contacts take memory if there are 16 or more points. If that allocation fails, they return
+ * the same, and take longer. */
 
 /* At least three points, not all equal, and no contact: the contour is the boundary of a simple polygon. It returns 1 or
  * 0, or I_SHAPE_UNSAFE. */
@@ -231,7 +249,7 @@ typedef struct { size_t first, second; } i_shape_contact;
 
 /* All contacts: by the place of the first edge, and those of one edge by that of the second. It writes as many as fit to
  * the front of out, and returns how many there are, also if that is more than room. I_SHAPE_UNSAFE: a point isn't safe.
- * After that, and behind the contacts, out is as it was. It tries all pairs of edges, and takes no memory. */
+ * After that, and behind the contacts, out is as it was. */
 ptrdiff_t i_shape_contacts_i32(const i_shape_point_i32 *points, size_t count, i_shape_contact *out, size_t room);
 /* The same of many contours together, with the offsets, places and codes of i_shape_first_contact_of_rings_i32, except
  * I_SHAPE_NO_ROOM. */
@@ -315,6 +333,8 @@ ptrdiff_t i_shape_canonical_shapes_i16(const i_shape_point_i16 *points, size_t c
 ptrdiff_t i_shape_canonical_unoriented_shapes_i16(const i_shape_point_i16 *points, size_t count, const size_t *contours, size_t contour_offset_count, const size_t *shapes, size_t shape_offset_count, i_shape_point_i16 *out_points, size_t room, size_t *out_contours, size_t contour_room, size_t *out_shapes, size_t shape_room);
 ptrdiff_t i_shape_canonical_polygons_i16(const i_shape_point_i16 *points, size_t count, const size_t *contours, size_t contour_offset_count, const size_t *shapes, size_t shape_offset_count, i_shape_point_i16 *out_points, size_t room, size_t *out_contours, size_t contour_room);
 ptrdiff_t i_shape_canonical_unoriented_polygons_i16(const i_shape_point_i16 *points, size_t count, const size_t *contours, size_t contour_offset_count, const size_t *shapes, size_t shape_offset_count, i_shape_point_i16 *out_points, size_t room, size_t *out_contours, size_t contour_room);
+ptrdiff_t i_shape_canonical_features_i16(const i_shape_point_i16 *points, size_t count, const size_t *contours, size_t contour_offset_count, const size_t *shapes, size_t shape_offset_count, const size_t *features, size_t feature_offset_count, i_shape_point_i16 *out_points, size_t room, size_t *out_contours, size_t contour_room, size_t *out_shapes, size_t shape_room);
+ptrdiff_t i_shape_canonical_unoriented_features_i16(const i_shape_point_i16 *points, size_t count, const size_t *contours, size_t contour_offset_count, const size_t *shapes, size_t shape_offset_count, const size_t *features, size_t feature_offset_count, i_shape_point_i16 *out_points, size_t room, size_t *out_contours, size_t contour_room, size_t *out_shapes, size_t shape_room);
 int32_t i_shape_is_simple_i16(const i_shape_point_i16 *points, size_t count);
 int32_t i_shape_has_no_spikes_i16(const i_shape_point_i16 *points, size_t count);
 int32_t i_shape_is_convex_i16(const i_shape_point_i16 *points, size_t count);
@@ -357,6 +377,8 @@ ptrdiff_t i_shape_canonical_shapes_i64(const i_shape_point_i64 *points, size_t c
 ptrdiff_t i_shape_canonical_unoriented_shapes_i64(const i_shape_point_i64 *points, size_t count, const size_t *contours, size_t contour_offset_count, const size_t *shapes, size_t shape_offset_count, i_shape_point_i64 *out_points, size_t room, size_t *out_contours, size_t contour_room, size_t *out_shapes, size_t shape_room);
 ptrdiff_t i_shape_canonical_polygons_i64(const i_shape_point_i64 *points, size_t count, const size_t *contours, size_t contour_offset_count, const size_t *shapes, size_t shape_offset_count, i_shape_point_i64 *out_points, size_t room, size_t *out_contours, size_t contour_room);
 ptrdiff_t i_shape_canonical_unoriented_polygons_i64(const i_shape_point_i64 *points, size_t count, const size_t *contours, size_t contour_offset_count, const size_t *shapes, size_t shape_offset_count, i_shape_point_i64 *out_points, size_t room, size_t *out_contours, size_t contour_room);
+ptrdiff_t i_shape_canonical_features_i64(const i_shape_point_i64 *points, size_t count, const size_t *contours, size_t contour_offset_count, const size_t *shapes, size_t shape_offset_count, const size_t *features, size_t feature_offset_count, i_shape_point_i64 *out_points, size_t room, size_t *out_contours, size_t contour_room, size_t *out_shapes, size_t shape_room);
+ptrdiff_t i_shape_canonical_unoriented_features_i64(const i_shape_point_i64 *points, size_t count, const size_t *contours, size_t contour_offset_count, const size_t *shapes, size_t shape_offset_count, const size_t *features, size_t feature_offset_count, i_shape_point_i64 *out_points, size_t room, size_t *out_contours, size_t contour_room, size_t *out_shapes, size_t shape_room);
 int32_t i_shape_is_simple_i64(const i_shape_point_i64 *points, size_t count);
 int32_t i_shape_has_no_spikes_i64(const i_shape_point_i64 *points, size_t count);
 int32_t i_shape_is_convex_i64(const i_shape_point_i64 *points, size_t count);

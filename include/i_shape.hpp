@@ -6,9 +6,14 @@
  * These take points and offsets from whatever std::data and std::size take: a vector, an array, or a pointer and a count
  * as i_shape::Span. Offsets are of any unsigned type; those of another one than std::size_t are copied. Results of
  * several items are vectors. A code of C is thrown as i_shape::Error. If a vector gets no memory, std::bad_alloc is
- * thrown. After any exception, arguments are unchanged. */
+ * thrown, and if kinds_of_contacts is given an index of no point, std::out_of_range. After any exception, arguments are
+ * unchanged. */
 #ifndef I_SHAPE_HPP
 #define I_SHAPE_HPP
+
+#if __cplusplus < 201703L && (!defined(_MSVC_LANG) || _MSVC_LANG < 201703L)
+#error "i_shape.hpp needs C++17 or later: -std=c++17, or /std:c++17 of MSVC"
+#else
 
 #include "i_shape.h"
 
@@ -20,6 +25,7 @@
 #include <exception>
 #include <iterator>
 #include <optional>
+#include <stdexcept>
 #include <type_traits>
 #include <utility>
 #include <vector>
@@ -28,21 +34,21 @@ namespace i_shape {
 
 enum class Code : std::int32_t {
     unsafe = I_SHAPE_UNSAFE,           /* a point that the call reads isn't safe */
-    bad_offsets = I_SHAPE_BAD_OFFSETS, /* the offsets don't divide the points, or the contours */
+    bad_offsets = I_SHAPE_BAD_OFFSETS, /* the offsets don't divide the points, the contours or the polygons */
     no_memory = I_SHAPE_NO_MEMORY,     /* an allocation failed */
     no_room = I_SHAPE_NO_ROOM,         /* the array of the answer is too short */
     unfit [[deprecated("its name is bad_offsets, and no_room is another code")]] = bad_offsets
 };
 
 /* The array of a call that has the error: points, points that are asked about, offsets of contours, offsets
- * of polygons, the array of the answer; nothing where there is no memory. */
-enum class Array { none, points, about, offsets, shapes, out };
+ * of polygons, the array of the answer, offsets of features; nothing where there is no memory. */
+enum class Array { none, points, about, offsets, shapes, out, features };
 
 class Error : public std::exception {
 public:
     explicit Error(Code code, Array array = Array::none, std::optional<std::size_t> place = std::nullopt) noexcept
         : code_(code), array_(array), place_(place) {
-        static constexpr const char *names[] = {"", ": points", ": about", ": offsets", ": shapes", ": out"};
+        static constexpr const char *names[] = {"", ": points", ": about", ": offsets", ": shapes", ": out", ": features"};
         std::snprintf(what_, sizeof what_, place ? "i_shape: %s%s[%zu]" : "i_shape: %s%s", words_of(code), names[static_cast<int>(array)], place.value_or(0));
     }
 
@@ -69,7 +75,7 @@ private:
     static const char *words_of(Code code) noexcept {
         switch (code) {
         case Code::unsafe: return "a point isn't in the safe range";
-        case Code::bad_offsets: return "the offsets don't divide the points, or the contours";
+        case Code::bad_offsets: return "the offsets don't divide the points, the contours or the polygons";
         case Code::no_room: return "the array of the answer is too short";
         case Code::no_memory: break;
         }
@@ -233,6 +239,8 @@ struct Calls {
         static constexpr auto canonical_unoriented_shapes = i_shape_canonical_unoriented_shapes_i##W; \
         static constexpr auto canonical_polygons = i_shape_canonical_polygons_i##W; \
         static constexpr auto canonical_unoriented_polygons = i_shape_canonical_unoriented_polygons_i##W; \
+        static constexpr auto canonical_features = i_shape_canonical_features_i##W; \
+        static constexpr auto canonical_unoriented_features = i_shape_canonical_unoriented_features_i##W; \
         static constexpr auto is_simple = i_shape_is_simple_i##W; \
         static constexpr auto has_no_spikes = i_shape_has_no_spikes_i##W; \
         static constexpr auto is_convex = i_shape_is_convex_i##W; \
@@ -360,7 +368,7 @@ inline constexpr auto no_contour = [](std::size_t) noexcept -> std::optional<std
 
 /* The error of offsets that don't divide so many items; nothing where they do. */
 inline std::optional<Error> bad_offsets(Array array, Offsets offsets, std::size_t count) noexcept {
-    const char *name = array == Array::shapes ? "shapes" : "offsets";
+    const char *name = array == Array::features ? "features" : array == Array::shapes ? "shapes" : "offsets";
     const std::size_t place = i_shape_first_bad_offset(count, read_offsets(offsets), offsets.size());
     char words[128];
     if (offsets.size() == 0) {
@@ -382,7 +390,7 @@ inline Error bad_pairs(std::size_t count) noexcept {
     return Error(Code::bad_offsets, Array::points, std::nullopt, std::nullopt, words);
 }
 
-/* The error of an array of the answer that has not so much room. */
+/* The error of an array for the result that is too short. */
 inline Error no_room(std::size_t room, std::size_t needed) noexcept {
     char words[96];
     std::snprintf(words, sizeof words, "out has room for %zu points, fewer than the %zu given", room, needed);
@@ -412,6 +420,14 @@ Error error_of(Code code, const Points &points, Offsets contours, Offsets shapes
     const Error error = error_of(code, points, contours);
     if (code != Code::bad_offsets || error.array() == Array::offsets) return error;
     return bad_offsets(Array::shapes, shapes, contours.size() - 1).value_or(error);
+}
+
+/* The same of features. */
+template <class Points>
+Error error_of(Code code, const Points &points, Offsets contours, Offsets shapes, Offsets features) noexcept {
+    const Error error = error_of(code, points, contours, shapes);
+    if (code != Code::bad_offsets || error.array() != Array::none) return error;
+    return bad_offsets(Array::features, features, shapes.size() - 1).value_or(error);
 }
 
 /* The answer of a call, or the error of its code. What the call was given is named behind it. */
@@ -461,8 +477,10 @@ Contours<PointOf<Points>> clean_contours(Call call, const Points &points, const 
     return left;
 }
 
-template <class Points, class GivenContours, class GivenShapes, class Call>
-Shapes<PointOf<Points>> clean_shapes(Call call, const Points &points, const GivenContours &given_contours, const GivenShapes &given_shapes) {
+/* What a call leaves of polygons. At most one more array of offsets is given: that of features. */
+template <class Points, class GivenContours, class GivenShapes, class Call, class... Features>
+Shapes<PointOf<Points>> clean_shapes(Call call, const Points &points, const GivenContours &given_contours, const GivenShapes &given_shapes,
+                                     Features... features) {
     const auto all_contours = as_offsets(given_contours);
     const auto all_shapes = as_offsets(given_shapes);
     const Offsets contours = all_contours, shapes = all_shapes;
@@ -471,25 +489,74 @@ Shapes<PointOf<Points>> clean_shapes(Call call, const Points &points, const Give
     left.contours.resize(contours.size());
     left.shapes.resize(shapes.size());
     const std::size_t count = count_of(call(read(points), std::size(points), read_offsets(contours), contours.size(), read_offsets(shapes),
-                                            shapes.size(), write(left.points), left.points.size(),
+                                            shapes.size(), read_offsets(features)..., features.size()..., write(left.points), left.points.size(),
                                             address<std::size_t>(left.contours.data()), left.contours.size(),
-                                            address<std::size_t>(left.shapes.data()), left.shapes.size()), points, contours, shapes);
+                                            address<std::size_t>(left.shapes.data()), left.shapes.size()), points, contours, shapes, features...);
     left.shapes.resize(count + 1);
     left.contours.resize(left.shapes.back() + 1);
     left.points.resize(left.contours.back());
     return left;
 }
 
-/* All contacts that a call lists. It is called again where there are more than the points. */
+/* The form of each feature, whose polygons the given offsets of features divide too. */
+template <class Points, class GivenContours, class GivenShapes, class GivenFeatures, class Call>
+Shapes<PointOf<Points>> form_features(Call call, const Points &points, const GivenContours &contours, const GivenShapes &shapes, const GivenFeatures &given_features) {
+    const auto all_features = as_offsets(given_features);
+    return clean_shapes(call, points, contours, shapes, Offsets(all_features));
+}
+
+/* How many of the points lie between the first of the offsets and the last. */
+inline std::size_t count_between(Offsets offsets, std::size_t count) {
+    if (offsets.size() == 0) return 0;
+    const std::size_t first = offsets.data()[0], last = offsets.data()[offsets.size() - 1];
+    return last < first ? 0 : std::min(last - first, count);
+}
+
+/* All contacts that a call lists. It is called again where there are more than expected. */
 template <class Call, class Points, class... Given>
-std::vector<Contact> listed(Call call, const Points &points, const Given &...given) {
-    std::vector<Contact> contacts(std::size(points));
+std::vector<Contact> listed(Call call, std::size_t expected, const Points &points, const Given &...given) {
+    std::vector<Contact> contacts(expected);
     for (;;) {
         const std::size_t room = contacts.size();
         const std::size_t count = count_of(call(address<i_shape_contact>(contacts.data()), room), points, given...);
         contacts.resize(count);
         if (count <= room) return contacts;
     }
+}
+
+/* The place of the point that follows another on its contour. */
+inline std::size_t next_place(Offsets offsets, std::size_t place) {
+    const std::size_t *first = offsets.data(), *last = first + offsets.size() - 1;
+    if (place < *first || place >= *last) throw std::out_of_range("i_shape: a contact names a point that no contour has");
+    const std::size_t *end = std::upper_bound(first, last, place);
+    return place + 1 < *end ? place + 1 : *(end - 1);
+}
+
+/* The ends of the two edges of each contact: four points. */
+template <class Points>
+auto edges_of(const Points &points, Offsets offsets, Span<const Contact> contacts) {
+    std::vector<typename CallsOf<Points>::Point> edges;
+    edges.reserve(4 * contacts.size());
+    const auto add_edge = [&](std::size_t place) {
+        const std::size_t next = next_place(offsets, place);
+        edges.insert(edges.end(), {as_c(std::data(points)[place]), as_c(std::data(points)[next])});
+    };
+    std::for_each(contacts.data(), contacts.data() + contacts.size(), [&](const Contact &pair) {
+        add_edge(pair.first);
+        add_edge(pair.second);
+    });
+    return edges;
+}
+
+/* How the edges of each of many pairs meet, by their ends. What the call was given is named behind these. */
+template <class Points, class Edges, class... Given>
+std::vector<ContactKind> kinds_of(const Edges &edges, const Given &...given) {
+    std::vector<ContactKind> kinds(std::size(edges) / 4);
+    const std::int32_t answer = CallsOf<Points>::kinds_of_contacts(address<const typename CallsOf<Points>::Point>(std::data(edges)), std::size(edges),
+                                                                   address<std::uint8_t>(kinds.data()), kinds.size());
+    if (answer == I_SHAPE_BAD_OFFSETS) throw bad_pairs(std::size(edges));
+    count_of(answer, given...);
+    return kinds;
 }
 
 /* The form of each polygon, whose contours the given offsets of polygons divide too. */
@@ -654,6 +721,19 @@ Contours<PointOf<Points>> canonical_unoriented_polygons(const Points &points, co
     return detail::form_polygons(detail::CallsOf<Points>::canonical_unoriented_polygons, points, contours, shapes);
 }
 
+/* The form of each feature, which is a list of polygons: their forms, sorted. A polygon that collapses stays, without
+ * contours, so features divides the polygons that are returned too. */
+
+template <class Points, class Offsets, class ShapeOffsets, class FeatureOffsets>
+Shapes<PointOf<Points>> canonical_features(const Points &points, const Offsets &contours, const ShapeOffsets &shapes, const FeatureOffsets &features) {
+    return detail::form_features(detail::CallsOf<Points>::canonical_features, points, contours, shapes, features);
+}
+
+template <class Points, class Offsets, class ShapeOffsets, class FeatureOffsets>
+Shapes<PointOf<Points>> canonical_unoriented_features(const Points &points, const Offsets &contours, const ShapeOffsets &shapes, const FeatureOffsets &features) {
+    return detail::form_features(detail::CallsOf<Points>::canonical_unoriented_features, points, contours, shapes, features);
+}
+
 /* What is said of these calls without offsets. */
 #define I_SHAPE_TAKES_OFFSETS(CALL) \
     template <class Points> \
@@ -671,6 +751,8 @@ I_SHAPE_TAKES_OFFSETS(canonical_shapes)
 I_SHAPE_TAKES_OFFSETS(canonical_unoriented_shapes)
 I_SHAPE_TAKES_OFFSETS(canonical_polygons)
 I_SHAPE_TAKES_OFFSETS(canonical_unoriented_polygons)
+I_SHAPE_TAKES_OFFSETS(canonical_features)
+I_SHAPE_TAKES_OFFSETS(canonical_unoriented_features)
 
 #undef I_SHAPE_TAKES_OFFSETS
 
@@ -846,13 +928,13 @@ std::optional<Contact> first_contact_of_rings(const Points &points, const Offset
     return Contact{places[0], places[1]};
 }
 
-/* All contacts of a contour, by the first edge and then by the second, in time quadratic in the points. It throws
- * Code::unsafe where a point isn't safe. */
+/* All contacts of a contour, by the first edge and then by the second; kinds_of_contacts returns how these edges meet. It
+ * throws Code::unsafe where a point isn't safe. */
 template <class Points>
 std::vector<Contact> contacts(const Points &points) {
     return detail::listed(
         [&](i_shape_contact *out, std::size_t room) { return detail::CallsOf<Points>::contacts(detail::read(points), std::size(points), out, room); },
-        points);
+        std::size(points), points);
 }
 
 /* The same of many contours together, within one or between two. The places are those in points. It throws as
@@ -860,24 +942,39 @@ std::vector<Contact> contacts(const Points &points) {
 template <class Points, class Offsets>
 std::vector<Contact> contacts_of_rings(const Points &points, const Offsets &offsets) {
     const auto all = detail::as_offsets(offsets);
+    const detail::Offsets of_points = all;
     return detail::listed(
         [&](i_shape_contact *out, std::size_t room) {
-            return detail::CallsOf<Points>::contacts_of_rings(detail::read(points), std::size(points), detail::read_offsets(all), all.size(), out, room);
+            return detail::CallsOf<Points>::contacts_of_rings(detail::read(points), std::size(points), detail::read_offsets(of_points), of_points.size(), out,
+                                                              room);
         },
-        points, detail::Offsets(all));
+        detail::count_between(of_points, std::size(points)), points, of_points);
 }
 
-/* How the edges of each of many pairs meet. There are four points for each pair: the ends of the first edge, and those of
- * the second. It throws Code::bad_offsets where the number of points isn't a multiple of four, and Code::unsafe where a
+/* How the two edges of each contact of a contour meet, or of any other two, by the points from which they lead, as
+ * contacts returns them. It throws Code::unsafe where an end isn't safe, with the first unsafe point of the contour, and
+ * std::out_of_range where there is no such point. */
+template <class Points, class Contacts>
+std::vector<ContactKind> kinds_of_contacts(const Points &points, const Contacts &contacts) {
+    const std::size_t whole[] = {0, std::size(points)};
+    return detail::kinds_of<Points>(detail::edges_of(points, whole, contacts), points);
+}
+
+/* The same of many contours, as contacts_of_rings returns them. It throws Code::bad_offsets too, where the offsets don't
+ * divide the points. */
+template <class Points, class Offsets, class Contacts>
+std::vector<ContactKind> kinds_of_contacts(const Points &points, const Offsets &offsets, const Contacts &contacts) {
+    const auto all = detail::as_offsets(offsets);
+    if (const auto error = detail::bad_offsets(Array::offsets, all, std::size(points))) throw *error;
+    return detail::kinds_of<Points>(detail::edges_of(points, all, contacts), points, detail::Offsets(all));
+}
+
+/* The same of any pairs of edges. There are four points for each pair: the ends of the first edge, and those of the
+ * second. It throws Code::bad_offsets where the number of points isn't a multiple of four, and Code::unsafe where a
  * point isn't safe. */
 template <class Points>
 std::vector<ContactKind> kinds_of_contacts(const Points &edges) {
-    std::vector<ContactKind> kinds(std::size(edges) / 4);
-    const std::int32_t answer = detail::CallsOf<Points>::kinds_of_contacts(detail::read(edges), std::size(edges),
-                                                                           detail::address<std::uint8_t>(kinds.data()), kinds.size());
-    if (answer == I_SHAPE_BAD_OFFSETS) throw detail::bad_pairs(std::size(edges));
-    detail::count_of(answer, edges);
-    return kinds;
+    return detail::kinds_of<Points>(edges, edges);
 }
 
 /* The first fault of each of many polygons, which lie as in Shapes. It throws Code::bad_offsets where the offsets don't
@@ -991,4 +1088,5 @@ std::vector<std::vector<std::vector<Point>>> nested(const Shapes<Point> &all) {
 
 } // namespace i_shape
 
+#endif
 #endif

@@ -73,8 +73,8 @@ parts_back {X} items start front rest (x ∷ xs) long is =
         rw (first_offset (start + length x) xs, count, behind) (take_at x (concatenated xs ++ rest) (length x) refl)
 
 -- Reading back what a call leaves.
-module _ {P : Type 0} (Form : List Point → Option (List Point) → Type 0) {at : P → Point} {points : List P} {contours shapes : List ℕ} {old_points new_points : List P} {old_contours new_contours old_shapes new_shapes : List ℕ} {n : ℕ}
-    (left : AreShapesLeft (ListClean Form) at (polygon_arrays points contours shapes) (polygon_arrays old_points old_contours old_shapes) (polygon_arrays new_points new_contours new_shapes) n) where
+module _ {P : Type 0} {Gives : List (List (List Point)) → List (List (List Point)) → Type 0} {at : P → Point} {points : List P} {contours shapes : List ℕ} {old_points new_points : List P} {old_contours new_contours old_shapes new_shapes : List ℕ} {n : ℕ}
+    (left : AreShapesLeft Gives at (polygon_arrays points contours shapes) (polygon_arrays old_points old_contours old_shapes) (polygon_arrays new_points new_contours new_shapes) n) where
   abbrev pub rings : List (List Point)
   rings = concatenated left.list
 
@@ -116,12 +116,15 @@ module _ {P : Type 0} (Form : List Point → Option (List Point) → Type 0) {at
       let counts = read_counts at cleaned in
       (sym counts.1 ∙ ap (λ w. length (concatenated w)) cleaned_are, sym counts.2 ∙ ap (λ w. length (concatenated (concatenated w))) cleaned_are)
 
+-- Sorting what a call leaves.
+module _ {P : Type 0} (Form : List Point → Option (List Point) → Type 0) {at : P → Point} {points : List P} {contours shapes : List ℕ} {old_points new_points : List P} {old_contours new_contours old_shapes new_shapes : List ℕ} {n : ℕ}
+    (left : AreShapesLeft (ListClean Form) at (polygon_arrays points contours shapes) (polygon_arrays old_points old_contours old_shapes) (polygon_arrays new_points new_contours new_shapes) n) where
   -- arrays that hold them sorted hold the form of the polygons
-  pub form_written : {had_points has_points : List P} {had_contours has_contours had_shapes has_shapes : List ℕ} → WritesSorted at cleaned (polygon_arrays had_points had_contours had_shapes) (polygon_arrays has_points has_contours has_shapes)
+  pub form_written : {had_points has_points : List P} {had_contours has_contours had_shapes has_shapes : List ℕ} → WritesSorted SortsPolygons at (cleaned left) (polygon_arrays had_points had_contours had_shapes) (polygon_arrays has_points has_contours has_shapes)
       → AreShapesLeft (ListForm Form) at (polygon_arrays points contours shapes) (polygon_arrays had_points had_contours had_shapes) (polygon_arrays has_points has_contours has_shapes) n
   form_written {had_points} {has_points} {had_contours} {has_contours} {had_shapes} {has_shapes} wrote =
       let made = map (map (map at)) wrote.list in
-      let sorts = subst (λ w. SortsPolygons w made) cleaned_are wrote.sorted in
+      let sorts = subst (λ w. SortsPolygons w made) (cleaned_are left) wrote.sorted in
       let counts = sorted_counts left.list made sorts in
       let reads = read_counts at wrote.list in
       polygons_written at wrote.list (ListForm Form) points contours shapes had_points has_points had_contours has_contours had_shapes has_shapes n

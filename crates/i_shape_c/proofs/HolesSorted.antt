@@ -18,7 +18,7 @@ use Rattle.i_shape.proofs.Lists.Fewer.{sum_by-length, sum_by-concatenated}
 use Rattle.i_shape_c.specs.Batch.{contour_arrays, offset, nth_contour, AreRising, PartsPoints, IsCleanedBatch}
 use Rattle.i_shape_c.specs.Formed.{AreFormed, HoldForms}
 use Rattle.i_shape_c.specs.Polygons.{polygon_arrays, parts}
-use Rattle.i_shape_c.specs.Steps.Sorted.{SortsRest, SortsEachRest}
+use Rattle.i_shape_c.specs.Steps.Sorted.{SortsRest, ChangesEach, SortsEachRest}
 use Rattle.i_shape_c.proofs.Appended.{put_none, put_one}
 use Rattle.i_shape_c.proofs.Nested.{zip_from, list_more}
 use Rattle.i_shape_c.proofs.Parts.{nothing_between}
@@ -65,11 +65,11 @@ parts_sum f xs {offsets} {n} parted =
     let within : sum_by f (take (b - a) (drop a xs)) ≡ sum_by (λ part. sum_by f part) (parts xs offsets) = ap (sum_by f) (sym (parts_joined xs parted)) ∙ sum_by-concatenated f (parts xs offsets) in
     omega (arith, sum_by-take-drop f xs a, sum_by-take-drop f (drop a xs) (b - a), behind, within)
 
--- nor does sorting all items but the first of each part
-each_rest_sum : {X : Type 0} (Sorted : List X → Type 0) (f : X → ℕ) (old new : List X) {offsets : List ℕ} {n : ℕ} → PartsPoints n offsets → SortsEachRest Sorted old new offsets → sum_by f new ≡ sum_by f old
-each_rest_sum Sorted f old new {offsets} {n} parted sorts =
-    let within = zip_sums (SortsRest Sorted) (λ part. sum_by f part) (λ part. sum_by f part) (rest_sum Sorted f) (parts old offsets) (parts new offsets) sorts.each in
-    omega (arith, parts_sum f old parted, parts_sum f new parted, ap (sum_by f) sorts.before, ap (sum_by f) sorts.behind, within)
+-- if a change keeps a sum, so does changing each part
+pub each_sum : {X : Type 0} (Changes : List X → List X → Type 0) (f : X → ℕ) → ((s t : List X) → Changes s t → sum_by f t ≡ sum_by f s) → (old new : List X) {offsets : List ℕ} {n : ℕ} → PartsPoints n offsets → ChangesEach Changes old new offsets → sum_by f new ≡ sum_by f old
+each_sum Changes f kept old new {offsets} {n} parted changed =
+    let within = zip_sums Changes (λ part. sum_by f part) (λ part. sum_by f part) kept (parts old offsets) (parts new offsets) changed.each in
+    omega (arith, parts_sum f old parted, parts_sum f new parted, ap (sum_by f) changed.before, ap (sum_by f) changed.behind, within)
 
 -- contours that a cleaner left, in arrays that it filled
 module _ {P : Type 0} (cleaning : Cleaning) (width : Width) (at : P → Point) {points : List P} {contours : List ℕ} {old_points new_points : List P} {old_contours new_contours : List ℕ} {n : ℕ}
@@ -124,7 +124,7 @@ module _ {P : Type 0} (cleaning : Cleaning) (width : Width) (at : P → Point) {
     -- with as many points
     pub count_formed : length (concatenated (map ring new)) ≡ n
     count_formed =
-        let same = each_rest_sum (AllPairs IsAtMost) length (map (λ b. map at (ring b)) old) (map (λ b. map at (ring b)) new) parted sorts in
+        let same = each_sum (SortsRest (AllPairs IsAtMost)) length (rest_sum (AllPairs IsAtMost) length) (map (λ b. map at (ring b)) old) (map (λ b. map at (ring b)) new) parted sorts in
         let after = ap (λ w. length (concatenated w)) read_new in
         let before = ap (λ w. length (concatenated w)) read_old in
         omega (arith, same, sum_by-length (map (λ b. map at (ring b)) old), sum_by-length (map (λ b. map at (ring b)) new), after, before, made_points (map ring new), made_points (parts new_points new_contours), count_left)

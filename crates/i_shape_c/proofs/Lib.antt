@@ -10,6 +10,7 @@ pub mod Nested
 pub mod SortedPolygons
 pub mod FormsWritten
 pub mod HolesSorted
+pub mod FeaturesSorted
 pub mod Windings
 pub mod Told
 pub mod Marked

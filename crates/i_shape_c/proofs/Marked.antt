@@ -13,7 +13,7 @@ use Rattle.i_shape_core.specs.Heights.{asks}
 use Rattle.i_shape_core.specs.declared.measure.heights.Asked.{Asked}
 use Rattle.i_shape_core.proofs.Arithmetic.Polynomials.{plus, times, minus, by_polynomials}
 use Rattle.i_shape_core.proofs.Arithmetic.WholeNumbers.{not_positive_of, drop_last}
-use Rattle.i_shape_core.proofs.Plane.Back.{way_squared, square_term, square_at_least, no_way}
+use Rattle.i_shape_core.proofs.Plane.Back.{way_squared, square_term, square_at_least, equal_of_distance}
 use Rattle.i_shape_core.proofs.Plane.CrossProducts.{coordinates, cross_term, dot_term, A, B, C}
 use Rattle.i_shape_core.proofs.Removal.Places.{after_is, after_within, before_from}
 use Rattle.i_shape_core.proofs.Sums.BoundaryWalk.{EndsOn, on_edge}
@@ -43,7 +43,7 @@ fall_scaled a p b = by_polynomials (coordinates (a ∷ p ∷ b ∷ []))
 apart : (p b : Point) → (p.y ≡ b.y → ⊥) → pos 0 <ℤ way_squared p b
 apart p b other =
     let least = square_at_least p b in
-    let some : way_squared p b ≡ pos 0 → ⊥ = λ e. other (ap (λ (q : Point). q.y) (no_way p b e)) in
+    let some : way_squared p b ≡ pos 0 → ⊥ = λ e. other (ap (λ (q : Point). q.y) (equal_of_distance p b e)) in
     above (way_squared p b) least some
   where
     above : (s : ℤ) → pos 0 ≤ℤ s → (s ≡ pos 0 → ⊥) → pos 0 <ℤ s
@@ -118,7 +118,7 @@ module _ {X : Type 0} (mark : X) where
 pub asked_as : {I : Type 0} (value : I → ℤ) (On Of : Point → Type 0) (asked : List (Asked I)) → ((p : Point) → On p → Of p) → (k : ℕ) → IsAskedFor value On asked k → IsAskedFor value Of asked k
 asked_as value On Of asked to k is = record { entry = is.entry; among = is.among; place = is.place; on = to (point_of value is.entry.point) is.on }
 
--- an entry that is asked for by one of two conditions is so by either
+-- an entry asked for by a condition that implies one of two is asked for by one of these two
 pub asked_parts : {I : Type 0} (value : I → ℤ) (On Of Both : Point → Type 0) (asked : List (Asked I)) → ((p : Point) → Both p → On p ⊎ Of p) → (k : ℕ) → IsAskedFor value Both asked k → IsAskedFor value On asked k ⊎ IsAskedFor value Of asked k
 asked_parts value On Of Both asked parts k is = elim (parts (point_of value is.entry.point) is.on) [
   | inl on ↦ inl (record { entry = is.entry; among = is.among; place = is.place; on = on })

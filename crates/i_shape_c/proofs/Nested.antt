@@ -7,7 +7,6 @@ use Rattle.i_shape_c.specs.Batch.{offset, nth_contour, AreRising}
 use Rattle.i_shape_c.specs.Steps.Appended.{IsPut}
 use Rattle.i_shape_c.specs.Polygons.{parts, offsets_of}
 use Rattle.i_shape.specs.Paths.{concatenated}
-use Rattle.i_shape_c.specs.Steps.Sorted.{SortsRest}
 use Rattle.i_shape_core.proofs.Lists.Rings.{rises_to, each_more}
 use Rattle.i_shape_c.proofs.Appended.{put_front, offsets-ends_from, ends-append}
 use Rattle.i_shape.proofs.Lists.EndToEnd.{concatenated-append, length_concatenated_take}
@@ -24,24 +23,24 @@ same_part xs ys n a b some within same =
     let fits : a + m ≤ n = omega (arith, some, within) in
     sym (drop-take a m xs) ∙ ap (drop a) (sym (take-take (a + m) n xs fits) ∙ ap (take (a + m)) same ∙ take-take (a + m) n ys fits) ∙ drop-take a m ys
 
--- sorting a part's items except the first extends the sorted parts by one
-pub rest_more : {X : Type 0} (Sorted : List X → Type 0) (given old new : List X) (offsets : List ℕ) (place : ℕ) → AreRising offsets (length offsets) → 0 < place → place < length offsets
-    → ((k : ℕ) → k + 1 < place → SortsRest Sorted (nth_contour given offsets k) (nth_contour old offsets k)) → drop (offset offsets (place - 1)) old ≡ drop (offset offsets (place - 1)) given
+-- changing a part extends the changed parts by one
+pub change_more : {X : Type 0} (Changes : List X → List X → Type 0) (given old new : List X) (offsets : List ℕ) (place : ℕ) → AreRising offsets (length offsets) → 0 < place → place < length offsets
+    → ((k : ℕ) → k + 1 < place → Changes (nth_contour given offsets k) (nth_contour old offsets k)) → drop (offset offsets (place - 1)) old ≡ drop (offset offsets (place - 1)) given
     → take (offset offsets (place - 1)) new ≡ take (offset offsets (place - 1)) old
-    → SortsRest Sorted (slice_range old (offset offsets (place - 1)) (offset offsets place)) (slice_range new (offset offsets (place - 1)) (offset offsets place))
-    → (k : ℕ) → k + 1 < place + 1 → SortsRest Sorted (nth_contour given offsets k) (nth_contour new offsets k)
-rest_more Sorted given old new offsets place order some within done behind before here =
+    → Changes (slice_range old (offset offsets (place - 1)) (offset offsets place)) (slice_range new (offset offsets (place - 1)) (offset offsets place))
+    → (k : ℕ) → k + 1 < place + 1 → Changes (nth_contour given offsets k) (nth_contour new offsets k)
+change_more Changes given old new offsets place order some within done behind before here =
     let a = offset offsets (place - 1) in
     let next : place - 1 + 1 ≡ place = omega (arith, some) in
     let up : a ≤ offset offsets place = rises_to offsets (length offsets) (place - 1) place order (omega arith) within in
     let part : slice_range old a (offset offsets place) ≡ slice_range given a (offset offsets place) = ap (take (offset offsets place - a)) behind in
-    let last : SortsRest Sorted (nth_contour given offsets (place - 1)) (nth_contour new offsets (place - 1)) =
-    subst (λ n. SortsRest Sorted (slice_range given a (offset offsets n)) (slice_range new a (offset offsets n))) (sym next) (subst (λ w. SortsRest Sorted w (slice_range new a (offset offsets place))) part here) in
-    each_more (λ k. SortsRest Sorted (nth_contour given offsets k) (nth_contour new offsets k)) place some
+    let last : Changes (nth_contour given offsets (place - 1)) (nth_contour new offsets (place - 1)) =
+    subst (λ n. Changes (slice_range given a (offset offsets n)) (slice_range new a (offset offsets n))) (sym next) (subst (λ w. Changes w (slice_range new a (offset offsets place))) part here) in
+    each_more (λ k. Changes (nth_contour given offsets k) (nth_contour new offsets k)) place some
     (λ k less.
     let low = rises_to offsets (length offsets) k (k + 1) order (omega arith) (omega (arith, less, within)) in
     let high = rises_to offsets (length offsets) (k + 1) (place - 1) order (omega (arith, less)) (omega (arith, within)) in
-    subst (SortsRest Sorted (nth_contour given offsets k)) (sym (same_part new old a (offset offsets k) (offset offsets (k + 1)) low high before)) (done k less))
+    subst (Changes (nth_contour given offsets k)) (sym (same_part new old a (offset offsets k) (offset offsets (k + 1)) low high before)) (done k less))
     last
 
 -- appending a list appends its end to the offsets

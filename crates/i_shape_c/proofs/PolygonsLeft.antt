@@ -303,14 +303,14 @@ module _ {P : Type 0} (points : List P) {contours shapes : List ℕ} (parted : P
         rw (ring_read, ring_is i below) at (shape_clean j [] (omega (arith, fits, many)))
 
     -- if the arrays hold what is left of the rings, they hold what is left of the polygons
-    pub left_written : (Answer : List Point → Option (List Point) → Type 0) (given_rings : List ℕ) (old_points new_points : List P) (old_contours new_contours old_shapes new_shapes : List ℕ) (n : ℕ)
+    pub left_written : (Gives : List (List (List Point)) → List (List (List Point)) → Type 0) (given_rings : List ℕ) (old_points new_points : List P) (old_contours new_contours old_shapes new_shapes : List ℕ) (n : ℕ)
         → given_rings ≡ rings
-        → WritesLeft Answer at (polygon_arrays points given_rings shapes) (polygon_arrays old_points old_contours old_shapes) (polygon_arrays new_points new_contours new_shapes) n
-        → AreShapesLeft (ListClean Answer) at (polygon_arrays points contours shapes) (polygon_arrays old_points old_contours old_shapes) (polygon_arrays new_points new_contours new_shapes) n
-    left_written Answer given_rings old_points new_points old_contours new_contours old_shapes new_shapes n same wrote_given =
-        let wrote = subst (λ w. WritesLeft Answer at (polygon_arrays points w shapes) (polygon_arrays old_points old_contours old_shapes) (polygon_arrays new_points new_contours new_shapes) n) same wrote_given in
+        → WritesLeft Gives at (polygon_arrays points given_rings shapes) (polygon_arrays old_points old_contours old_shapes) (polygon_arrays new_points new_contours new_shapes) n
+        → AreShapesLeft Gives at (polygon_arrays points contours shapes) (polygon_arrays old_points old_contours old_shapes) (polygon_arrays new_points new_contours new_shapes) n
+    left_written Gives given_rings old_points new_points old_contours new_contours old_shapes new_shapes n same wrote_given =
+        let wrote = subst (λ w. WritesLeft Gives at (polygon_arrays points w shapes) (polygon_arrays old_points old_contours old_shapes) (polygon_arrays new_points new_contours new_shapes) n) same wrote_given in
         let total = count_rings in
-        polygons_written at wrote.left (ListClean Answer) points contours shapes old_points new_points old_contours new_contours old_shapes new_shapes n (rw polygons_are wrote.answer)
+        polygons_written at wrote.left Gives points contours shapes old_points new_points old_contours new_contours old_shapes new_shapes n (rw polygons_are wrote.answer)
         wrote.written.held wrote.written.count wrote.written.fewer_points
         (omega (arith, wrote.written.fewer_contours, total, parted.shapes_parted.last, parted.contours_parted.some)) wrote.written.fewer_shapes
 

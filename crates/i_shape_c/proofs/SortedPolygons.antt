@@ -20,7 +20,7 @@ use Rattle.i_shape.proofs.Lists.Fewer.{sum_by-one, sum_by-length, sum_by-concate
 use Rattle.i_shape.proofs.Shapes.SortedOrders.{shape_told, sorted_pairs}
 use Rattle.i_shape_c.specs.Batch.{offset}
 use Rattle.i_shape_c.specs.Polygons.{parts, polygons}
-use Rattle.i_shape_c.specs.Steps.Sorted.{SortsRest, SortsEachRest, SortsPolygons}
+use Rattle.i_shape_c.specs.Steps.Sorted.{SortsRest, SortsAll, SortsEachRest, SortsEach, SortsPolygons, SortsFeatures}
 use Rattle.i_shape_c.proofs.PolygonLists.{concatenated-map, parts-map}
 use Rattle.i_shape_c.proofs.PolygonsLeft.{read_counts}
 
@@ -39,12 +39,12 @@ survivors_made {X} {Y} {Z} A B R none some xs ys zs (answers, zipped, are) made 
     go (x ∷ xs) (Some y ∷ answers) (z ∷ zs) h k = let rest = go xs answers zs h.1 k.1 in (Some z ∷ rest.0, (some x y z h.0 k.0, rest.1), ap (λ l. z ∷ l) rest.2)
 
 module _ (Form : List Point → Option (List Point) → Type 0) where
-  form_none : (s : List (List Point)) → ShapeClean Form s None → ShapeForm Form s None
+  pub form_none : (s : List (List Point)) → ShapeClean Form s None → ShapeForm Form s None
   form_none [] clean = clean
   form_none (c ∷ s) clean = clean
 
   -- a cleaned polygon whose holes are sorted is the form of the polygon
-  form_some : (s k l : List (List Point)) → ShapeClean Form s (Some k) → SortsRest (AllPairs IsAtMost) k l → ShapeForm Form s (Some l)
+  pub form_some : (s k l : List (List Point)) → ShapeClean Form s (Some k) → SortsRest (AllPairs IsAtMost) k l → ShapeForm Form s (Some l)
   form_some [] [] [] clean sorts = refl
   form_some [] [] (y ∷ l) clean sorts = let first = sorts.first in absurd cc
   form_some [] (x ∷ k) l clean sorts = absurd cc
@@ -71,23 +71,24 @@ zip_sums R f g same (x ∷ xs) (y ∷ ys) h = omega (arith, sum_by-cons f x xs, 
 holes_sum : (f : List Point → ℕ) (s t : List (List Point)) → SortsRest (AllPairs IsAtMost) s t → sum_by f t ≡ sum_by f s
 holes_sum f s t sorts = omega (arith, sum_by-take-drop f t 1, sum_by-take-drop f s 1, ap (sum_by f) sorts.first, sum_by-IsPermutation f (drop 1 s) (drop 1 t) sorts.same)
 
--- sorting polygons changes no sum over the contours
-polygons_sum : (f : List Point → ℕ) (s t : List (List (List Point))) → SortsPolygons s t → sum_by (sum_by f) t ≡ sum_by (sum_by f) s
-polygons_sum f s t sorts =
-    let holes = zip_sums (SortsRest (AllPairs IsAtMost)) (sum_by f) (sum_by f) (holes_sum f) s sorts.holes sorts.holes_sorted in
-    omega (arith, sum_by-IsPermutation (sum_by f) sorts.holes t sorts.same, holes)
-
--- sorting polygons keeps the number of polygons, contours and points
-pub sorted_counts : (s t : List (List (List Point))) → SortsPolygons s t
+-- if the holes of each polygon are sorted, and then the polygons so that no sum over them changes, the number of
+-- polygons, contours and points stays
+pub counts_kept : (s holes t : List (List (List Point))) → AllZip (SortsRest (AllPairs IsAtMost)) s holes → ((f : List (List Point) → ℕ) → sum_by f t ≡ sum_by f holes)
     → (length t ≡ length s) × (length (concatenated t) ≡ length (concatenated s)) × (length (concatenated (concatenated t)) ≡ length (concatenated (concatenated s)))
-sorted_counts s t sorts =
-    let shapes = zip_sums (SortsRest (AllPairs IsAtMost)) (λ w. 1) (λ w. 1) (λ x y h. refl) s sorts.holes sorts.holes_sorted in
-    let contours = polygons_sum (λ w. 1) s t sorts in
-    let points = polygons_sum length s t sorts in (
-      omega (arith, shapes, sum_by-IsPermutation (λ w. 1) sorts.holes t sorts.same, sum_by-one s, sum_by-one t),
+counts_kept s holes t sorts same =
+    let kept = λ (f : List Point → ℕ). same (sum_by f) ∙ zip_sums (SortsRest (AllPairs IsAtMost)) (sum_by f) (sum_by f) (holes_sum f) s holes sorts in
+    let shapes = zip_sums (SortsRest (AllPairs IsAtMost)) (λ w. 1) (λ w. 1) (λ x y h. refl) s holes sorts in
+    let contours = kept (λ w. 1) in
+    let points = kept length in (
+      omega (arith, shapes, same (λ w. 1), sum_by-one s, sum_by-one t),
       omega (arith, contours, sum_by-concatenated (λ c. 1) s, sum_by-concatenated (λ c. 1) t, sum_by-one (concatenated s), sum_by-one (concatenated t)),
       omega (arith, points, sum_by-concatenated length s, sum_by-concatenated length t, sum_by-length (concatenated s), sum_by-length (concatenated t)),
     )
+
+-- sorting polygons keeps these numbers
+pub sorted_counts : (s t : List (List (List Point))) → SortsPolygons s t
+    → (length t ≡ length s) × (length (concatenated t) ≡ length (concatenated s)) × (length (concatenated (concatenated t)) ≡ length (concatenated (concatenated s)))
+sorted_counts s t sorts = counts_kept s sorts.holes t sorts.holes_sorted (λ f. sum_by-IsPermutation f sorts.holes t sorts.same)
 
 -- if f carries R to S, mapping pairwise related lists gives pairwise related lists
 zip_map : {X Y : Type 0} (R : X → X → Type 0) (S : Y → Y → Type 0) (f : X → Y) → ((x y : X) → R x y → S (f x) (f y)) → (xs ys : List X) → AllZip R xs ys → AllZip S (map f xs) (map f ys)
@@ -185,18 +186,42 @@ module _ {P B D : Type 0} (ring : B → List P) (rings : D → List B) (at : P �
         in_order = sorted_pairs shape_cmp shape IsShapeAtMost (on_total rings (lists_total ring_total)) (λ x y less. shape_told ring_cmp read ring_told (rings x) (rings y) less) sorted up;
       }
 
+  all_sorted : (old new : List D) → SortsAll (IsSorted shape_cmp) old new → SortsAll (AllPairs IsShapeAtMost) (map (λ d. map read (rings d)) old) (map (λ d. map read (rings d)) new)
+  all_sorted old new sorts = record {
+    same = IsPermutation-map (λ d. map read (rings d)) old new sorts.same;
+    sorted = sorted_pairs shape_cmp (λ d. map read (rings d)) IsShapeAtMost (on_total rings (lists_total ring_total)) (λ x y less. shape_told ring_cmp read ring_told (rings x) (rings y) less) new sorts.sorted;
+  }
+
+  -- sorting each polygon's rings except the first, and then the polygons of each feature, sorts the features
+  pub features_sorted : (old new : List B) (offsets : List ℕ) (made sorted : List D) (features : List ℕ) → SortsEachRest (IsSorted ring_cmp) old new offsets → map rings made ≡ parts new offsets → SortsEach (IsSorted shape_cmp) made sorted features
+      → SortsFeatures features (map (map read) (parts old offsets)) (map (λ d. map read (rings d)) sorted)
+  features_sorted old new offsets made sorted features each are up =
+      let shape = λ (d : D). map read (rings d) in
+      let is : map shape made ≡ map (map read) (parts new offsets) = sym (map-map (map read) rings made) ∙ ap (map (map read)) are in
+      record {
+        holes = map (map read) (parts new offsets);
+        holes_sorted = zip_map (SortsRest (IsSorted ring_cmp)) (SortsRest (AllPairs IsAtMost)) (map read) rest_sorted (parts old offsets) (parts new offsets) each.each;
+        in_order = subst (λ w. SortsEach (AllPairs IsShapeAtMost) w (map shape sorted) features) is (record {
+          each = rw (parts-map shape made features, parts-map shape sorted features) (zip_map (SortsAll (IsSorted shape_cmp)) (SortsAll (AllPairs IsShapeAtMost)) (map shape) all_sorted (parts made features) (parts sorted features) up.each);
+          before = take-map shape (offset features 0) sorted ∙ ap (map shape) up.before ∙ sym (take-map shape (offset features 0) made);
+          behind = drop-map shape (offset features (length features - 1)) sorted ∙ ap (map shape) up.behind ∙ sym (drop-map shape (offset features (length features - 1)) made);
+        });
+      }
+
   -- the same of polygons read from arrays, which keep the number of contours and points
-  pub made_sorted : (points : List P) (contours shapes : List ℕ) (old new : List B) (made sorted : List D) → map ring old ≡ parts points contours → SortsEachRest (IsSorted ring_cmp) old new shapes → map rings made ≡ parts new shapes → IsPermutation made sorted
-      → IsSorted shape_cmp sorted → SortsPolygons (map (map (map at)) (polygons points contours shapes)) (map (map (map at)) (map (map ring) (map rings sorted)))
+  pub made_sorted : (Sorts : List (List (List Point)) → List (List (List Point)) → Type 0)
+      → ((s t : List (List (List Point))) → Sorts s t → (length t ≡ length s) × (length (concatenated t) ≡ length (concatenated s)) × (length (concatenated (concatenated t)) ≡ length (concatenated (concatenated s))))
+      → (points : List P) (contours shapes : List ℕ) (old : List B) (sorted : List D) → map ring old ≡ parts points contours → Sorts (map (map read) (parts old shapes)) (map (λ d. map read (rings d)) sorted)
+      → Sorts (map (map (map at)) (polygons points contours shapes)) (map (map (map at)) (map (map ring) (map rings sorted)))
       × (length (concatenated (map rings sorted)) ≡ length (concatenated (polygons points contours shapes)))
       × (length (concatenated (map ring (concatenated (map rings sorted)))) ≡ length (concatenated (concatenated (polygons points contours shapes))))
-  made_sorted points contours shapes old new made sorted are each polygons_are same up =
+  made_sorted Sorts kept points contours shapes old sorted are up =
       let given = polygons points contours shapes in
       let left = map (map ring) (map rings sorted) in
       let given_read : map (map (map at)) given ≡ map (map read) (parts old shapes) = ap (λ w. map (map (map at)) (parts w shapes)) (sym are) ∙ ap (map (map (map at))) (parts-map ring old shapes) ∙ map-map₂ (map at) ring (parts old shapes) in
       let left_read : map (map (map at)) left ≡ map (λ d. map read (rings d)) sorted = map-map₂ (map at) ring (map rings sorted) ∙ map-map (map read) rings sorted in
-      let sorts : SortsPolygons (map (map (map at)) given) (map (map (map at)) left) = subst₂ SortsPolygons (sym given_read) (sym left_read) (polygons_sorted old new shapes made sorted each polygons_are same up) in
-      let counts = sorted_counts (map (map (map at)) given) (map (map (map at)) left) sorts in
+      let sorts : Sorts (map (map (map at)) given) (map (map (map at)) left) = subst₂ Sorts (sym given_read) (sym left_read) up in
+      let counts = kept (map (map (map at)) given) (map (map (map at)) left) sorts in
       let given_counts = read_counts at given in
       let left_counts = read_counts at left in
       let flat : concatenated left ≡ map ring (concatenated (map rings sorted)) = concatenated-map ring (map rings sorted) in (

@@ -34,18 +34,28 @@ abbrev pub IsHolder : {P : Type 0} → (P → Point) → PolygonArrays P → Fil
 IsHolder point given rule p index =
     IsFirstHolder (DoesHold point rule given p) (length given.shapes - 1) index ⊎ ((index ≡ no_shape) × ((k : ℕ) → k < length given.shapes - 1 → DoesHold point rule given p k → ⊥))
 
+-- a call's query about many points: polygons, the points in question, and the code of a fill rule
+pub record HoldersQuery (P : Type 0) : Type 0 where
+  pub polygons : PolygonArrays P
+  pub about : List P
+  pub rule : ℤ
+
+-- the query of these parts
+abbrev pub holders_query : {P : Type 0} → PolygonArrays P → List P → ℤ → HoldersQuery P
+holders_query polygons about rule = record { polygons = polygons; about = about; rule = rule }
+
 -- 0 and an index for each point, or a code with nothing written
-abbrev pub HoldersAnswer : {P : Type 0} → (P → Point) → PolygonArrays P → List P → ℤ → List ℕ → List ℕ → ℤ → Type 0
-HoldersAnswer point given about rule old new (pos zero) = IfSome (rule_of rule) (λ r. AreTold (IsHolder point given r) point about old new)
-HoldersAnswer point given about rule old new (pos (suc n)) = ⊥
-HoldersAnswer point given about rule old new (negsuc n) = (n < 4) × (new ≡ old)
+abbrev pub HoldersAnswer : {P : Type 0} → (P → Point) → HoldersQuery P → List ℕ → List ℕ → ℤ → Type 0
+HoldersAnswer point asked old new (pos zero) = IfSome (rule_of asked.rule) (λ r. AreTold (IsHolder point asked.polygons r) point asked.about old new)
+HoldersAnswer point asked old new (pos (suc n)) = ⊥
+HoldersAnswer point asked old new (negsuc n) = (n < 4) × (new ≡ old)
 
 -- what a call returns and writes for the first polygon that holds each of many points, and exactly when it returns which
 -- code: none for memory
-pub record FindsHolders {P : Type 0} (width : Width) (point : P → Point) (given : PolygonArrays P) (about : List P) (rule : ℤ) (old new : List ℕ) (result : ℤ) : Type 0 where
-  pub answer : HoldersAnswer point given about rule old new result
-  pub refuses : Refuses ((rule_of rule ≢ None) × PartsPolygons (length given.points) given.contours given.shapes) (length about ≤ length old)
-      (AreSafeContours width point given.points given.contours × AreSafe width point about) (Unit {0}) result
+pub record FindsHolders {P : Type 0} (width : Width) (point : P → Point) (asked : HoldersQuery P) (old new : List ℕ) (result : ℤ) : Type 0 where
+  pub answer : HoldersAnswer point asked old new result
+  pub refuses : Refuses ((rule_of asked.rule ≢ None) × PartsPolygons (length asked.polygons.points) asked.polygons.contours asked.polygons.shapes) (length asked.about ≤ length old)
+      (AreSafeContours width point asked.polygons.points asked.polygons.contours × AreSafe width point asked.about) (Unit {0}) result
 
 -- the points of the contours of polygon k
 abbrev pub polygon_points : {P : Type 0} → PolygonArrays P → ℕ → List P

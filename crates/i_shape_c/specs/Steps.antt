@@ -1,4 +1,4 @@
--- How polygons are sorted and written, of which private functions alone speak.
+-- How polygons are sorted and written, which only private functions cite.
 pub mod Appended
 pub mod Sorted
 pub mod AskedFor

@@ -6,7 +6,7 @@ ghost use Rattle.i_shape.specs.Paths.{concatenated};
 ghost use Rattle.i_shape_c.specs.Batch.{AreSafeContours};
 ghost use Rattle.i_shape_c.specs.Points.{point_by};
 ghost use Rattle.i_shape_c.specs.Polygons.{polygon_arrays, polygons, HaveNoContours, PartsPolygons, HasShapesRoom, AreShapesLeft, formed_by, CleansPolygons};
-ghost use Rattle.i_shape_c.specs.Steps.Sorted.{WritesSorted};
+ghost use Rattle.i_shape_c.specs.Steps.Sorted.{SortsPolygons, WritesSorted};
 
 use crate::batch::part;
 use crate::codes::Refusal;
@@ -178,7 +178,7 @@ fn write_sorted<P: CPoint>(
         (polygons points.now contours.now shapes.now))) ≤ length out_points.old }
     requires contours_room { length contours.now ≤ length out_contours.old }
     requires shapes_room { length shapes.now ≤ length out_shapes.old }
-    ensures ok { OnOk result (WritesSorted (point_by P.Coordinate.value P.point)
+    ensures ok { OnOk result (WritesSorted SortsPolygons (point_by P.Coordinate.value P.point)
         (polygons points.now contours.now shapes.now)
         (polygon_arrays out_points.old out_contours.old out_shapes.old)
         (polygon_arrays out_points.new out_contours.new out_shapes.new)) }

@@ -10,8 +10,7 @@ use crate::polygons::are_polygons;
 
 /// Writes the indices of the polygons that are left, those of their contours that have points, and the offsets that
 /// divide these contours among these polygons. Returns how many polygons are left, or a code below 0.
-#[unsafe(no_mangle)]
-pub extern "C" fn i_shape_compact_shapes(
+pub fn compact_shapes(
     contours: &[usize],
     shapes: &[usize],
     out_contours: &mut [usize],

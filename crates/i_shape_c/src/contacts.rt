@@ -124,14 +124,14 @@ fn rebased(alloc: Global, offsets: &[usize]) -> Result<Vec<usize>, AllocError>
 
 /// Writes the contacts to the front of `out`, as many as it has room for, by the first edge and then by the second.
 /// Returns how many there are, or a code below 0.
-pub fn find_contacts<P: CPoint>(points: &[P], out: &mut [Contact]) -> isize
+pub fn find_contacts<P: CPoint>(alloc: Global, points: &[P], out: &mut [Contact]) -> isize
     ensures { FindsContacts P.Coordinate.width (point_by P.Coordinate.value P.point)
         points.now out.old out.new result }
 {
     if !are_safe(points) {
         return Refusal::Unsafe.code() as isize;
     }
-    capped(contacts(points, out)) as isize
+    capped(contacts(alloc, points, out)) as isize
 }
 
 /// Writes the contacts of the contours in the same way. Memory for a copy of the offsets is needed where the first one
@@ -175,10 +175,10 @@ fn contacts_of_parts<P: CPoint>(
     let start = offsets[0];
     let given = part(points, start, offsets[offsets.len() - 1]);
     if start == 0 {
-        return Ok(contacts_of_rings(given, offsets, out));
+        return Ok(contacts_of_rings(alloc, given, offsets, out));
     }
     let own = rebased(alloc, offsets)?;
-    let count = contacts_of_rings(given, &own, out);
+    let count = contacts_of_rings(alloc, given, &own, out);
     move_contacts(out, count, start);
     Ok(count)
 }

@@ -7,7 +7,7 @@ ghost use Rattle.i_shape_contacts.specs.Steps.Boxes.{Holds, AreApart};
 ghost use Rattle.i_shape_c.specs.Batch.{PartsPoints, AreSafeContours};
 ghost use Rattle.i_shape_c.specs.Cleaned.{AreSafe};
 ghost use Rattle.i_shape_c.specs.Codes.{IsRefusal};
-ghost use Rattle.i_shape_c.specs.Holders.{IsHolder, AreBoxes, FindsHolders};
+ghost use Rattle.i_shape_c.specs.Holders.{holders_query, IsHolder, AreBoxes, FindsHolders};
 ghost use Rattle.i_shape_c.specs.Locations.{AreTold};
 ghost use Rattle.i_shape_c.specs.Points.{point_by};
 ghost use Rattle.i_shape_c.specs.Polygons.{polygon_arrays, PartsPolygons};
@@ -36,7 +36,8 @@ pub fn find_holders<P: CPoint>(
     out: &mut [usize],
 ) -> i32
     ensures { FindsHolders P.Coordinate.width (point_by P.Coordinate.value P.point)
-        (polygon_arrays points.now contours.now shapes.now) about.now code out.old out.new result }
+        (holders_query (polygon_arrays points.now contours.now shapes.now) about.now code)
+        out.old out.new result }
 {
     let Some(rule) = rule_of(code) else {
         return Refusal::BadOffsets.code();

@@ -1,26 +1,26 @@
-//! The cleaners, tests and measures of contours for callers in C. Points and results lie in the caller's arrays. Each
-//! call checks its preconditions, and returns a code if one isn't met.
+//! What the calls for C do: cleaners, tests and measures of contours, whose points and results lie in the caller's
+//! arrays. Each checks its preconditions, and returns a code if one isn't met.
 #![tactic(auto)]
 
-mod area;
-mod batch;
-mod calls;
-mod canonical;
-mod codes;
-mod compact;
-mod contacts;
-mod contour;
+pub mod area;
+pub mod batch;
+pub mod canonical;
+pub mod codes;
+pub mod compact;
+pub mod contacts;
+pub mod contour;
 mod edges;
-mod forms;
-mod holders;
-mod kinds;
+pub mod features;
+pub mod forms;
+pub mod holders;
+pub mod kinds;
 mod lists;
-mod location;
-mod measures;
-mod places;
-mod point;
-mod polygons;
-mod predicates;
-mod validity;
-mod version;
-mod winding;
+pub mod location;
+pub mod measures;
+pub mod places;
+pub mod point;
+pub mod polygons;
+pub mod predicates;
+pub mod validity;
+pub mod version;
+pub mod winding;

@@ -5,7 +5,7 @@ ghost use Rattle.i_shape.specs.Paths.{concatenated};
 ghost use Rattle.i_shape_c.specs.Steps.Appended.{IsPut};
 ghost use Rattle.i_shape_c.specs.Batch.{PartsPoints};
 ghost use Rattle.i_shape_c.specs.Polygons.{parts, offsets_of};
-ghost use Rattle.i_shape_c.specs.Steps.Sorted.{SortsRest, SortsEachRest};
+ghost use Rattle.i_shape_c.specs.Steps.Sorted.{SortsRest, SortsAll, SortsEachRest, SortsEach};
 
 use crate::batch::part;
 use std::alloc::{AllocError, Global};
@@ -50,6 +50,25 @@ fn sort_rest<T: Ord>(list: &mut [T])
     if !list.is_empty() {
         list[1..].sort_unstable();
     }
+}
+
+/// Sorts the items of each list into which the offsets divide them. The items outside are unchanged.
+pub fn sort_each<T: Ord>(items: &mut [T], offsets: &[usize])
+    requires { PartsPoints (length items.old) offsets.now }
+    ensures sorted { SortsEach (IsSorted T.cmp) items.old items.new offsets.now }
+    ensures len { length items.new ≡ length items.old }
+{
+    for place in 1..offsets.len() {
+        sort_all(&mut items[offsets[place - 1]..offsets[place]]);
+    }
+}
+
+/// Sorts all items.
+fn sort_all<T: Ord>(list: &mut [T])
+    ensures sorted { SortsAll (IsSorted T.cmp) list.old list.new }
+    ensures len { length list.new ≡ length list.old }
+{
+    list.sort_unstable();
 }
 
 /// Writes the lists end to end to the front of `out`, and their offsets to the front of `offsets`.

@@ -33,12 +33,3 @@ pub fn first_bad_offset(points: usize, offsets: &[usize]) -> usize
     }
     offsets.len()
 }
-
-/// Returns the index of the first offset that is below the one before it or above `count`, or the number of offsets if
-/// none is.
-#[unsafe(no_mangle)]
-pub extern "C" fn i_shape_first_bad_offset(count: usize, offsets: &[usize]) -> usize
-    ensures { IsFirstBadOffset count offsets.now result }
-{
-    first_bad_offset(count, offsets)
-}

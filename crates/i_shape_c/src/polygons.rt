@@ -96,7 +96,7 @@ pub fn are_polygons(points: usize, contours: &[usize], shapes: &[usize]) -> bool
 }
 
 /// Returns whether there is room for as many points, and as many offsets of both arrays.
-fn has_shapes_room(
+pub fn has_shapes_room(
     points: usize,
     contours: usize,
     shapes: usize,
@@ -188,7 +188,7 @@ fn write_polygons<P: CPoint, C: ContourCleaner>(
         ≤ length out_points.old + offset rings.now 0 }
     requires contours_room { length rings.now ≤ length out_contours.old }
     requires shapes_room { length shapes.now ≤ length out_shapes.old }
-    ensures { WritesLeft C.meaning.answers (point_by P.Coordinate.value P.point)
+    ensures { WritesLeft (ListClean C.meaning.answers) (point_by P.Coordinate.value P.point)
         (polygon_arrays points.now rings.now shapes.now)
         (polygon_arrays out_points.old out_contours.old out_shapes.old)
         (polygon_arrays out_points.new out_contours.new out_shapes.new) result }
@@ -219,7 +219,7 @@ fn write_polygons<P: CPoint, C: ContourCleaner>(
 
 /// Writes the cleaned polygon after those already written: nothing if its outer contour collapses, otherwise the
 /// contours that don't collapse. Returns the new counts.
-fn append_polygon<P: CPoint, C: ContourCleaner>(
+pub fn append_polygon<P: CPoint, C: ContourCleaner>(
     cleaner: &mut C,
     points: &[P],
     rings: &[usize],

@@ -9,8 +9,7 @@ const MINOR: u32 = 2;
 const PATCH: u32 = 0;
 
 /// Returns the version: 2^16 times the major number, plus 2^8 times the minor number, plus the patch number.
-#[unsafe(no_mangle)]
-pub extern "C" fn i_shape_version() -> u32
+pub fn version() -> u32
     ensures { result ≡ 2 ^ 9 }
 {
     MAJOR * 65536 + MINOR * 256 + PATCH

@@ -1,13 +1,13 @@
 -- How what is left of polygons is written one after the other, and the room that it takes. Only private functions cite
 -- this.
-use Rattle.std.specs.Prelude.{◌≡◌, Bool, ℕ, ◌+◌, ◌-◌, ◌<◌, ◌≤◌, ◌++◌, List, [], ◌∷◌, map, length, take, drop, slice_range, IsTrue, Option}
+use Rattle.std.specs.Prelude.{◌≡◌, Bool, ℕ, ◌+◌, ◌-◌, ◌<◌, ◌≤◌, ◌⊎◌, ◌++◌, List, [], ◌∷◌, map, length, take, drop, slice_range, IsTrue, Option, Some, None}
 use Rattle.std.specs.Int.{Width}
-use Rattle.std.specs.List.{range_with_len}
+use Rattle.std.specs.List.{AllZip, range_with_len}
 use Rattle.std.specs.Option.{option_map, option_to_list}
 use Rattle.i_shape.specs.Point.{Point}
 use Rattle.i_shape.specs.IntPoint.{IsSafeContour}
 use Rattle.i_shape.specs.Paths.{concatenated}
-use Rattle.i_shape.specs.ShapeAnswers.{ShapeClean, ListClean}
+use Rattle.i_shape.specs.ShapeAnswers.{ShapeClean}
 use Rattle.i_shape_c.specs.Batch.{ContourArrays, contour_arrays, offset, nth_contour}
 use Rattle.i_shape_c.specs.Polygons.{PolygonArrays, parts, offsets_of}
 use Rattle.i_shape_c.specs.declared.polygons.Counts.{Counts}
@@ -62,6 +62,14 @@ pub record AppendsPolygons {P : Type 0} (list : List (List (List P))) (old new :
   pub shapes_len : length new.shapes ≡ length old.shapes
   pub shapes_count : after.shapes ≡ before.shapes + length list
 
+-- what is left of a polygon: nothing, and so no contour, if it collapses
+abbrev pub IsLeftOrEmpty : (List Point → Option (List Point) → Type 0) → List (List Point) → List (List Point) → Type 0
+IsLeftOrEmpty Answer shape kept = ShapeClean Answer shape (Some kept) ⊎ (ShapeClean Answer shape None × (kept ≡ []))
+
+-- what is left of each polygon
+abbrev pub AreLeftOrEmpty : (List Point → Option (List Point) → Type 0) → List (List (List Point)) → List (List (List Point)) → Type 0
+AreLeftOrEmpty Answer given kept = AllZip (IsLeftOrEmpty Answer) given kept
+
 -- what is left of a contour is written after those counted before; nothing is written if it collapses
 pub record AppendsRingLeft {P : Type 0} (Answer : List Point → Option (List Point) → Type 0) (point : P → Point) (ring : List P) (old new : ContourArrays P) (before after : Counts) : Type 0 where
   pub left : Option (List P)
@@ -73,6 +81,12 @@ pub record AppendsShapeLeft {P : Type 0} (Answer : List Point → Option (List P
   pub left : Option (List (List P))
   pub answer : ShapeClean Answer (map (map point) shape) (option_map (map (map point)) left)
   pub appended : AppendsPolygons (option_to_list left) old new before after
+
+-- what is left of a polygon is written after those counted before, without contours if it collapses
+pub record AppendsShapeKept {P : Type 0} (Answer : List Point → Option (List Point) → Type 0) (point : P → Point) (shape : List (List P)) (old new : PolygonArrays P) (before after : Counts) : Type 0 where
+  pub kept : List (List P)
+  pub answer : IsLeftOrEmpty Answer (map (map point) shape) (map (map point) kept)
+  pub appended : AppendsPolygons (kept ∷ []) old new before after
 
 -- the three arrays begin with the polygons, and are otherwise unchanged
 pub record HoldsPolygons {P : Type 0} (list : List (List (List P))) (old new : PolygonArrays P) : Type 0 where
@@ -89,7 +103,7 @@ pub record WritesPolygons {P : Type 0} (list : List (List (List P))) (points rin
   pub fewer_shapes : length list < shapes
 
 -- the arrays hold what is left of the given polygons, whose contours' offsets begin with those of the first polygon
-pub record WritesLeft {P : Type 0} (Answer : List Point → Option (List Point) → Type 0) (point : P → Point) (given old new : PolygonArrays P) (n : ℕ) : Type 0 where
+pub record WritesLeft {P : Type 0} (Gives : List (List (List Point)) → List (List (List Point)) → Type 0) (point : P → Point) (given old new : PolygonArrays P) (n : ℕ) : Type 0 where
   pub left : List (List (List P))
-  pub answer : ListClean Answer (map (map (map point)) (polygons_of given.points given.contours given.shapes (length given.shapes - 1))) (map (map (map point)) left)
+  pub answer : Gives (map (map (map point)) (polygons_of given.points given.contours given.shapes (length given.shapes - 1))) (map (map (map point)) left)
   pub written : WritesPolygons left (length given.points) (length given.contours) (length given.shapes) old new n

@@ -8,7 +8,7 @@ use Rattle.i_shape_c.specs.Polygons.{parts, polygons, offsets_of}
 use Rattle.i_shape_c.specs.Steps.Sorted.{SortsPolygons}
 use Rattle.i_shape_c.proofs.Nested.{listed, filled}
 use Rattle.i_shape_c.proofs.PolygonLists.{concatenated-map, offsets-map}
-use Rattle.i_shape_c.proofs.SortedPolygons.{points_in_order, made_sorted, sorted_by_first, keyed}
+use Rattle.i_shape_c.proofs.SortedPolygons.{points_in_order, sorted_counts, polygons_sorted, made_sorted, sorted_by_first, keyed}
 use Rattle.i_shape_c.proofs.canonical.write_sorted.Given.{Over}
 use Rattle.i_shape_c.proofs.canonical.write_sorted.Goals.{After-deref, After-deref_mut-2, After-deref-3}
 use Rattle.i_shape_c.proofs.canonical.write_sorted.Goals as goal
@@ -38,9 +38,9 @@ facts : (g : Over) (c : After-deref_mut-2 g)
 facts g c =
     let read = c.deref.ensures.value ∙ take_at c.sort_each_rest.new.items _ c.in_ok-rings.rings.len (c.sort_each_rest.ensures.len ∙ ap length c.deref_mut.ensures.value ∙ sym c.in_ok-rings.rings.ok.0) in
     let told = points_in_order g.P.Coordinate.IntNumber.value g.P.ContourPoint.point g.P.Coordinate.Ord.cmp g.met.P.Coordinate.IntNumber.order g.P.Ord.cmp g.met.P.CPoint.ordered in
-    made_sorted (λ b. b.now) (λ d. d.now) (at g) g.P.Ord.cmp told g.met.P.Ord.total c.args.points.now c.args.contours.now c.args.shapes.now c.in_ok-rings.rings.items c.sort_each_rest.new.items c.in_ok-polygons.polygons.items c.sort_by_cached_key.new.self.items
-    c.in_ok-rings.ensures (rw c.deref_mut.ensures.value at c.sort_each_rest.ensures.sorted) (c.in_ok-polygons.ensures ∙ ap (λ w. parts w c.args.shapes.now) read) c.sort_by_cached_key.ensures.permutation
-    (sorted_by_first (λ b. b.now) (λ d. d.now) (at g) g.P.Ord.cmp told g.met.P.Ord.total c.sort_by_cached_key.new.self.items (c.in_ok-sort_by_cached_key.ensures.sorted (keyed (λ b. b.now) (λ d. d.now)) (answers_always _ _ _ (λ f a r q k. search rules))))
+    made_sorted (λ b. b.now) (λ d. d.now) (at g) g.P.Ord.cmp told g.met.P.Ord.total SortsPolygons sorted_counts c.args.points.now c.args.contours.now c.args.shapes.now c.in_ok-rings.rings.items c.sort_by_cached_key.new.self.items c.in_ok-rings.ensures
+    (polygons_sorted (λ b. b.now) (λ d. d.now) (at g) g.P.Ord.cmp told g.met.P.Ord.total c.in_ok-rings.rings.items c.sort_each_rest.new.items c.args.shapes.now c.in_ok-polygons.polygons.items c.sort_by_cached_key.new.self.items (rw c.deref_mut.ensures.value at c.sort_each_rest.ensures.sorted) (c.in_ok-polygons.ensures ∙ ap (λ w. parts w c.args.shapes.now) read) c.sort_by_cached_key.ensures.permutation
+    (sorted_by_first (λ b. b.now) (λ d. d.now) (at g) g.P.Ord.cmp told g.met.P.Ord.total c.sort_by_cached_key.new.self.items (c.in_ok-sort_by_cached_key.ensures.sorted (keyed (λ b. b.now) (λ d. d.now)) (answers_always _ _ _ (λ f a r q k. search rules)))))
 
 -- the room for the rings is exactly their number
 long : (g : Over) (c : After-deref_mut-2 g) → (length (concatenated (map (λ d. d.now) c.deref-2.result.now)) ≡ length c.deref_mut-2.result.now) × (length c.deref_mut-2.result.now ≡ length c.args.contours.now - 1)

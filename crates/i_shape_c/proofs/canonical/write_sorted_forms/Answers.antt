@@ -4,7 +4,7 @@ use Rattle.i_shape_core.proofs.Lists.Rings.{rises_to}
 use Rattle.i_shape_c.specs.Batch.{offset, PartsPoints}
 use Rattle.i_shape_c.specs.Points.{point_by}
 use Rattle.i_shape_c.specs.Polygons.{polygon_arrays, polygons, offsets_of}
-use Rattle.i_shape_c.specs.Steps.Sorted.{WritesSorted}
+use Rattle.i_shape_c.specs.Steps.Sorted.{SortsPolygons, WritesSorted}
 use Rattle.i_shape_c.proofs.Appended.{length-offsets}
 use Rattle.i_shape_c.proofs.PolygonsLeft.{spans}
 use Rattle.i_shape_c.proofs.FormsWritten.{shape_offsets, last_shape, ring_offsets, all_contours, all_points, cleaned_counts, offsets_part, form_written}
@@ -39,11 +39,11 @@ shapes_are : (g : Over) (c : After-deref-2 g) → c.part-cleaned_shapes.result.n
 shapes_are g c =
     let back : c.deref.result.now ≡ c.write_cleaned.new.out_shapes = c.deref.ensures.value ∙ take_at c.write_cleaned.new.out_shapes _ c.in_ok-cleaned_shapes.cleaned_shapes.len
     (omega (arith, c.write_cleaned.auto.out_shapes, ap length c.deref_mut-3.ensures.value, c.in_ok-cleaned_shapes.cleaned_shapes.ok.0)) in
-    c.part-cleaned_shapes.ensures.part ∙ ap (λ w. slice_range w 0 (c.in_ok-count.count + 1)) back ∙ shape_offsets g.C.ContourCleaner.meaning.answers c.in_ok-count.ensures.ok
+    c.part-cleaned_shapes.ensures.part ∙ ap (λ w. slice_range w 0 (c.in_ok-count.count + 1)) back ∙ shape_offsets c.in_ok-count.ensures.ok
 
 -- the last of these is the number of contours
 last : (g : Over) (c : After-deref-2 g) → offset c.part-cleaned_shapes.result.now c.in_ok-count.count ≡ length (concatenated c.in_ok-count.ensures.ok.list)
-last g c = ap (λ w. offset w c.in_ok-count.count) (shapes_are g c) ∙ last_shape g.C.ContourCleaner.meaning.answers c.in_ok-count.ensures.ok
+last g c = ap (λ w. offset w c.in_ok-count.count) (shapes_are g c) ∙ last_shape c.in_ok-count.ensures.ok
 
 -- the contours' offsets that a call wrote are read back
 contours_back : (g : Over) (c : After-deref-2 g) → c.deref-2.result.now ≡ c.write_cleaned.new.out_contours
@@ -58,17 +58,17 @@ overflow_add-cleaned_shapes g c =
 pub part-cleaned_contours-requires-clause-within : goal.part-cleaned_contours-requires-clause-within
 part-cleaned_contours-requires-clause-within g c =
     let before = (goal.at.part-cleaned_contours-requires-clause-within g c).After-deref-2 in
-    omega (arith, last g before, all_contours g.C.ContourCleaner.meaning.answers c.in_ok-count.ensures.ok, ap length (contours_back g before))
+    omega (arith, last g before, all_contours c.in_ok-count.ensures.ok, ap length (contours_back g before))
 
 -- the cleaned points, and the offsets of their contours and polygons, are read back
 read_back : (g : Over) (c : After-deref-3 g) → c.part-cleaned_shapes.result.now ≡ offsets_of 0 c.in_ok-count.ensures.ok.list → c.deref-2.result.now ≡ c.write_cleaned.new.out_contours
     → (c.deref-3.result.now ≡ c.write_cleaned.new.out_points) × (c.part-cleaned_contours.result.now ≡ offsets_of 0 (concatenated c.in_ok-count.ensures.ok.list)) × (c.part-cleaned_shapes.result.now ≡ offsets_of 0 c.in_ok-count.ensures.ok.list)
 read_back g c shapes contours =
-    let count = ap (λ w. offset w c.in_ok-count.count) shapes ∙ last_shape g.C.ContourCleaner.meaning.answers c.in_ok-count.ensures.ok in
+    let count = ap (λ w. offset w c.in_ok-count.count) shapes ∙ last_shape c.in_ok-count.ensures.ok in
     let points_back = c.deref-3.ensures.value ∙ take_at c.write_cleaned.new.out_points _ c.in_ok-cleaned_points.cleaned_points.len
     (omega (arith, c.write_cleaned.auto.out_points, ap length c.deref_mut.ensures.value, c.in_ok-cleaned_points.cleaned_points.ok.0)) in
     let contours_are = c.part-cleaned_contours.ensures.part ∙ ap (λ w. slice_range w 0 (offset c.part-cleaned_shapes.result.now c.in_ok-count.count + 1)) contours
-    ∙ ap (λ k. slice_range c.write_cleaned.new.out_contours 0 (k + 1)) count ∙ ring_offsets g.C.ContourCleaner.meaning.answers c.in_ok-count.ensures.ok in
+    ∙ ap (λ k. slice_range c.write_cleaned.new.out_contours 0 (k + 1)) count ∙ ring_offsets c.in_ok-count.ensures.ok in
     (points_back, contours_are, shapes)
 
 -- equal arrays are read as equal polygons
@@ -82,7 +82,7 @@ write_sorted-requires-clause-parted g c =
     let back = read_back g at.After-deref-3 (shapes_are g at.After-deref-2) (contours_back g at.After-deref-2) in
     let rings = concatenated left.list in
     record {
-      contours_parted = subst₂ (λ a b. PartsPoints (length a) b) (sym back.0) (sym back.1) (offsets_part rings (length c.write_cleaned.new.out_points) (all_points g.C.ContourCleaner.meaning.answers left));
+      contours_parted = subst₂ (λ a b. PartsPoints (length a) b) (sym back.0) (sym back.1) (offsets_part rings (length c.write_cleaned.new.out_points) (all_points left));
       shapes_parted = subst₂ (λ a b. PartsPoints (length a - 1) b) (sym back.1) (sym back.2) (offsets_part left.list (length (offsets_of 0 rings) - 1) (omega (arith, length-offsets 0 rings)));
     }
 
@@ -91,7 +91,7 @@ write_sorted-requires-clause-whole g c =
     let left = c.in_ok-count.ensures.ok in
     let at = goal.at.write_sorted-requires-clause-whole g c in
     let back = read_back g at.After-deref-3 (shapes_are g at.After-deref-2) (contours_back g at.After-deref-2) in
-    let counts = cleaned_counts g.C.ContourCleaner.meaning.answers left in
+    let counts = cleaned_counts left in
     omega (arith, ap (λ w. length (concatenated w)) (same_polygons back), counts.0, ap length back.1, length-offsets 0 (concatenated left.list))
 
 pub write_sorted-requires-clause-points_room : goal.write_sorted-requires-clause-points_room
@@ -99,7 +99,7 @@ write_sorted-requires-clause-points_room g c =
     let left = c.in_ok-count.ensures.ok in
     let at = goal.at.write_sorted-requires-clause-points_room g c in
     let back = read_back g at.After-deref-3 (shapes_are g at.After-deref-2) (contours_back g at.After-deref-2) in
-    let counts = cleaned_counts g.C.ContourCleaner.meaning.answers left in
+    let counts = cleaned_counts left in
     omega (arith, ap (λ w. length (concatenated (concatenated w))) (same_polygons back), counts.1, left.fewer_points, c.requires.room.contours_fit.points_room)
 
 pub returns-clause-ok : goal.returns-clause-ok
@@ -107,4 +107,4 @@ returns-clause-ok g c =
     let at = goal.at.returns-clause-ok g c in
     let back = read_back g at.After-deref-3 (shapes_are g at.After-deref-2) (contours_back g at.After-deref-2) in
     form_written g.C.ContourCleaner.meaning.answers c.in_ok-count.ensures.ok
-    (subst (λ w. WritesSorted (point_by g.P.Coordinate.IntNumber.value g.P.ContourPoint.point) w (polygon_arrays c.args.out_points.now c.args.out_contours.now c.args.out_shapes.now) (polygon_arrays c.write_sorted.new.out_points c.write_sorted.new.out_contours c.write_sorted.new.out_shapes)) (same_polygons back) c.in_ok-write_sorted.ensures.ok)
+    (subst (λ w. WritesSorted SortsPolygons (point_by g.P.Coordinate.IntNumber.value g.P.ContourPoint.point) w (polygon_arrays c.args.out_points.now c.args.out_contours.now c.args.out_shapes.now) (polygon_arrays c.write_sorted.new.out_points c.write_sorted.new.out_contours c.write_sorted.new.out_shapes)) (same_polygons back) c.in_ok-write_sorted.ensures.ok)

@@ -3,7 +3,7 @@ use Rattle.std.proofs.lemmas.Slice.{take-put_mid_below, between-put_mid, drop-pu
 use Rattle.i_shape_c.specs.Batch.{offset, nth_contour}
 use Rattle.i_shape_c.specs.Steps.Sorted.{SortsRest}
 use Rattle.i_shape_core.proofs.Lists.Rings.{rises_to, same_further}
-use Rattle.i_shape_c.proofs.Nested.{rest_more, zip_from}
+use Rattle.i_shape_c.proofs.Nested.{change_more, zip_from}
 use Rattle.i_shape_c.proofs.lists.sort_each_rest.Goals as goal
 
 pub offset_bounds-items-offsets : goal.offset_bounds-items-offsets
@@ -34,7 +34,7 @@ loop-place-preserved g c =
     let within : b ≤ length old = omega (arith, last, c.requires.last, c.loop-place.auto.items) in
     let long : length ys ≡ b - a = c.sort_rest.ensures.len ∙ length-take-le (b - a) (drop a old) (omega (arith, length-drop a old, up, within)) in
     record {
-      each = rest_more sorted c.args.items.now old _ offsets place c.requires.order (omega (arith, some)) c.loop-place-test.true c.loop-place.invariant.each c.loop-place.invariant.behind
+      each = change_more (SortsRest sorted) c.args.items.now old _ offsets place c.requires.order (omega (arith, some)) c.loop-place-test.true c.loop-place.invariant.each c.loop-place.invariant.behind
           (take-put_mid_below a (b - a) old ys a (omega arith) (omega (arith, up, within)))
           (subst (SortsRest sorted (slice_range old a b)) (sym (between-put_mid a (b - a) old ys b (omega (arith, up, within)) long)) c.sort_rest.ensures.sorted);
       before = take-put_mid_below a (b - a) old ys (offset offsets 0) (rises_to offsets (length offsets) 0 (place - 1) c.requires.order (omega arith) (omega (arith, some, c.loop-place-test.true))) (omega (arith, up, within)) ∙ c.loop-place.invariant.before;

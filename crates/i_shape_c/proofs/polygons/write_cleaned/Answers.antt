@@ -2,6 +2,7 @@ use Rattle.std.proofs.Common.{arith}
 use Rattle.i_shape_core.proofs.Common.{Point, point_of}
 use Rattle.i_shape.specs.Reading.{read}
 use Rattle.i_shape.specs.Rings.{AreSafeRings}
+use Rattle.i_shape.specs.ShapeAnswers.{ListClean}
 use Rattle.i_shape_c.specs.Batch.{AreSpared}
 use Rattle.i_shape_c.specs.Cleaned.{TakesNoMemory}
 use Rattle.i_shape_c.proofs.Batches.{safe_rings, have_room, on_err}
@@ -57,6 +58,6 @@ returns-in_err-all_clean-clause-memory g c =
 pub returns-clause-ok : goal.returns-clause-ok
 returns-clause-ok g c =
     let at : g.row.P.Denot → Point = λ p. point_of g.P.Coordinate.IntNumber.value (g.P.ContourPoint.point p) in
-    left_written c.args.points.now c.requires.parted at g.C.ContourCleaner.meaning.answers c.part-rings.result.now
+    left_written c.args.points.now c.requires.parted at (ListClean g.C.ContourCleaner.meaning.answers) c.part-rings.result.now
     c.args.out_points.now c.write_polygons.new.out_points c.args.out_contours.now c.write_polygons.new.out_contours c.args.out_shapes.now c.write_polygons.new.out_shapes c.write_polygons.result
     c.part-rings.ensures.part c.write_polygons.ensures

@@ -1,9 +1,0 @@
--- Made by scripts/widths.sh from that at 32 bits.
-use Rattle.std.proofs.Common.{w64}
-use Rattle.std.proofs.lemmas.Int.{to_z-of_z}
-use Rattle.i_shape_c.proofs.calls.i64.i_shape_winding_i64.Goals as goal
-
-pub returns : goal.returns
-returns c =
-    let done = rw (to_z-of_z w64 c.args.x c.ranges.x, to_z-of_z w64 c.args.y c.ranges.y) at c.winding.ensures in
-    rw (to_z-of_z w64 c.winding.result (record { sfits = c.winding.type_inv })) done

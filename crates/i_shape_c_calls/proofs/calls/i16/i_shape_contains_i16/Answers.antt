@@ -1,0 +1,10 @@
+-- Made by scripts/widths.sh from that at 32 bits.
+use Rattle.std.proofs.Common.{w16}
+use Rattle.std.proofs.lemmas.Int.{to_z-of_z}
+use Rattle.i_shape_c.proofs.Refusals.{same_32}
+use Rattle.i_shape_c_calls.proofs.calls.i16.i_shape_contains_i16.Goals as goal
+
+pub returns : goal.returns
+returns c =
+    let done = rw (to_z-of_z w16 c.args.x c.ranges.x, to_z-of_z w16 c.args.y c.ranges.y) at c.contains.ensures in
+    rw (same_32 c.contains.result (record { sfits = c.contains.type_inv })) done

@@ -1,0 +1,9 @@
+use Rattle.std.proofs.Common.{w32}
+use Rattle.std.proofs.lemmas.Int.{to_z-of_z}
+use Rattle.i_shape_c.proofs.Refusals.{same_32}
+use Rattle.i_shape_c_calls.proofs.calls.i32.i_shape_contains_i32.Goals as goal
+
+pub returns : goal.returns
+returns c =
+    let done = rw (to_z-of_z w32 c.args.x c.ranges.x, to_z-of_z w32 c.args.y c.ranges.y) at c.contains.ensures in
+    rw (same_32 c.contains.result (record { sfits = c.contains.type_inv })) done
