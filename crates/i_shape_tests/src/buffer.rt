@@ -174,22 +174,27 @@ const READABLE_SHAPES: [(&str, [&str; 2], Option<&str>); 5] = [
 
 #[test]
 fn ranges_can_be_read_or_not(rt: HostRuntime) -> Result<(), Fail> {
-    for (points, ranges, reads_first, contours) in READABLE {
-        let row = Row::new(&rt, rt.alloc(), ranges);
-        let buffer = flat(&row, points, ranges)?;
-        row.equal(buffer.can_read_first(), reads_first, "the first");
+    for (points, ranges, reads_first, contours) in &READABLE {
+        let row = Row::new(&rt, rt.alloc(), *ranges);
+        let buffer = flat(&row, *points, *ranges)?;
+        row.equal(buffer.can_read_first(), *reads_first, "the first");
         row.equal(buffer.can_read_contours(), contours.is_some(), "all");
         if let Some(contours) = contours {
-            has_contours(&row, &buffer, [points, ranges, contours])?;
+            has_contours(&row, &buffer, [*points, *ranges, *contours])?;
         }
     }
-    for (points, [contours, ranges], shapes) in READABLE_SHAPES {
-        let row = Row::new(&rt, rt.alloc(), ranges);
-        let buffer = flat_shapes(&row, points, [contours, ranges])?;
+    Ok(())
+}
+
+#[test]
+fn ranges_of_shapes_can_be_read_or_not(rt: HostRuntime) -> Result<(), Fail> {
+    for (points, [contours, ranges], shapes) in &READABLE_SHAPES {
+        let row = Row::new(&rt, rt.alloc(), *ranges);
+        let buffer = flat_shapes(&row, *points, [*contours, *ranges])?;
         row.holds(buffer.can_read_contours(), "the contours");
         row.equal(buffer.can_read_shapes(), shapes.is_some(), "the shapes");
         if let Some(shapes) = shapes {
-            has_shapes(&row, &buffer, [points, contours, ranges, shapes])?;
+            has_shapes(&row, &buffer, [*points, *contours, *ranges, *shapes])?;
         }
     }
     Ok(())
@@ -282,10 +287,10 @@ const CLEANED: [[&str; 4]; 5] = [
 
 #[test]
 fn cleaned_contours_stand_end_to_end(rt: HostRuntime) -> Result<(), Fail> {
-    for [points, ranges, kept, kept_ranges] in CLEANED {
-        let row = Row::new(&rt, rt.alloc(), ranges);
-        let kept = flat(&row, kept, kept_ranges)?;
-        cleans(&row, flat(&row, points, ranges)?, kept)?;
+    for [points, ranges, kept, kept_ranges] in &CLEANED {
+        let row = Row::new(&rt, rt.alloc(), *ranges);
+        let kept = flat(&row, *kept, *kept_ranges)?;
+        cleans(&row, flat(&row, *points, *ranges)?, kept)?;
     }
     Ok(())
 }

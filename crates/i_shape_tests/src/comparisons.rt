@@ -4,6 +4,7 @@ use crate::given::contour;
 use crate::plain::Pair;
 use crate::row::Row;
 use i_shape_core::canonical::least_start_counted;
+use std::alloc::{AllocError, Global};
 use std::cmp::Ordering;
 use std::test::Fail;
 
@@ -46,18 +47,24 @@ fn plain_search(list: &[Pair]) -> (usize, u128) {
     (best, pairs)
 }
 
-/// Each list of one to six points on a line whose x are the digits of a code to base 3.
+/// The list of so many points on a line whose x are the digits of the code to base 3.
+fn list_of(alloc: Global, count: usize, code: usize) -> Result<Vec<Pair>, AllocError> {
+    let mut list = Vec::new(alloc);
+    let mut rest = code;
+    for _ in 0..count {
+        list.push([(rest % 3) as i32, 0])?;
+        rest = rest / 3;
+    }
+    Ok(list)
+}
+
+/// Each list of one to six such points.
 #[test]
 fn comparisons_of_each_short_list_are_those_of_a_plain_loop(rt: HostRuntime) -> Result<(), Fail> {
-    for (count, codes) in [(1, 3), (2, 9), (3, 27), (4, 81), (5, 243), (6, 729)] {
-        for code in 0..codes {
+    for (count, codes) in &[(1, 3), (2, 9), (3, 27), (4, 81), (5, 243), (6, 729)] {
+        for code in 0..*codes {
             let row = Row::new(&rt, rt.alloc(), "a short list");
-            let mut list: Vec<Pair> = Vec::new(row.alloc);
-            let mut rest: usize = code;
-            for _ in 0..count {
-                list.push([(rest % 3) as i32, 0])?;
-                rest = rest / 3;
-            }
+            let list = list_of(row.alloc, *count, code)?;
             let points = contour::<i32>(&row, list.as_slice())?;
             assert!(rt; !points.is_empty());
             let found = least_start_counted(points.as_slice());

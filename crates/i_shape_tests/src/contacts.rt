@@ -53,13 +53,13 @@ const CONTOURS: [(&str, Option<[usize; 2]>, bool); 27] = [
 
 #[test]
 fn first_contacts_of_contours(rt: HostRuntime) -> Result<(), Fail> {
-    for (list, wanted, is_simple) in CONTOURS {
-        let row = Row::new(&rt, rt.alloc(), list);
-        let given = texts::contour(&row, list)?;
+    for (list, wanted, is_simple) in &CONTOURS {
+        let row = Row::new(&rt, rt.alloc(), *list);
+        let given = texts::contour(&row, *list)?;
         let found = pair(first_contact(row.alloc, given.as_slice()));
-        row.equal(found, wanted, "the first contact");
+        row.equal(found, *wanted, "the first contact");
         let answer = is_simple_polygon(row.alloc, given.as_slice());
-        row.equal(answer, is_simple, "a simple polygon");
+        row.equal(answer, *is_simple, "a simple polygon");
     }
     Ok(())
 }
@@ -74,10 +74,10 @@ fn answers(row: &Row<'_, impl Abort>, list: &[[i32; 2]]) -> Result<(bool, bool),
 
 #[test]
 fn starts_and_directions_keep_contacts(rt: HostRuntime) -> Result<(), Fail> {
-    for (name, contact, is_simple) in CONTOURS {
-        let row = Row::new(&rt, rt.alloc(), name);
-        let list = texts::points(row.alloc, name)?;
-        let wanted = (contact.is_some(), is_simple);
+    for (name, contact, is_simple) in &CONTOURS {
+        let row = Row::new(&rt, rt.alloc(), *name);
+        let list = texts::points(row.alloc, *name)?;
+        let wanted = (contact.is_some(), *is_simple);
         for start in 0..list.len() {
             let turned = rotated(row.alloc, list.as_slice(), start)?;
             row.equal(
@@ -113,9 +113,9 @@ fn refined(alloc: Global, list: &[[i32; 2]]) -> Result<Vec<[i32; 2]>, AllocError
 
 #[test]
 fn many_points_are_tried_as_all_pairs_are(rt: HostRuntime) -> Result<(), Fail> {
-    for (name, _, is_simple) in CONTOURS {
-        let row = Row::new(&rt, rt.alloc(), name);
-        let list = texts::points(row.alloc, name)?;
+    for (name, _, is_simple) in &CONTOURS {
+        let row = Row::new(&rt, rt.alloc(), *name);
+        let list = texts::points(row.alloc, *name)?;
         let finer = refined(row.alloc, list.as_slice())?;
         let given = contour::<i32>(&row, finer.as_slice())?;
         let points = given.as_slice();
@@ -128,7 +128,7 @@ fn many_points_are_tried_as_all_pairs_are(rt: HostRuntime) -> Result<(), Fail> {
         );
         row.equal(
             is_simple_polygon(row.alloc, points),
-            is_simple,
+            *is_simple,
             "a simple polygon",
         );
     }
@@ -159,14 +159,14 @@ fn number<I: IntNumber>([least, low, high, most]: [I; 4], place: u8) -> I {
 
 /// The first contacts of the contours at the corners of the safe range, of which these are the numbers.
 fn corners<I: IntNumber>(row: &Row<'_, impl Abort>, numbers: [I; 4]) -> Result<(), Fail> {
-    for (places, wanted) in CORNERS {
+    for (places, wanted) in &CORNERS {
         let mut list = Vec::new(row.alloc);
         for [x, y] in places {
-            list.push([number(numbers, x), number(numbers, y)])?;
+            list.push([number(numbers, *x), number(numbers, *y)])?;
         }
         let given = contour::<I>(row, list.as_slice())?;
         let found = pair(first_contact(row.alloc, given.as_slice()));
-        row.equal(found, wanted, "at the corners");
+        row.equal(found, *wanted, "at the corners");
     }
     Ok(())
 }
@@ -233,12 +233,12 @@ const RINGS: [(&str, &str, Option<[usize; 2]>); 21] = [
 
 #[test]
 fn first_contacts_of_rings(rt: HostRuntime) -> Result<(), Fail> {
-    for (list, parts, wanted) in RINGS {
-        let row = Row::new(&rt, rt.alloc(), list);
-        let given = texts::contour(&row, list)?;
-        let parts = offsets(row.alloc, parts)?;
+    for (list, parts, wanted) in &RINGS {
+        let row = Row::new(&rt, rt.alloc(), *list);
+        let given = texts::contour(&row, *list)?;
+        let parts = offsets(row.alloc, *parts)?;
         let found = of_rings(&row, given.as_slice(), parts.as_slice());
-        row.equal(found, [wanted, wanted], "the first contact");
+        row.equal(found, [*wanted, *wanted], "the first contact");
     }
     Ok(())
 }
@@ -325,15 +325,15 @@ const POLYGONS: [(&str, &str, Validity); 17] = [
 
 #[test]
 fn first_faults_of_polygons(rt: HostRuntime) -> Result<(), Fail> {
-    for (list, parts, wanted) in POLYGONS {
-        let row = Row::new(&rt, rt.alloc(), list);
-        let given = texts::contour(&row, list)?;
-        let parts = offsets(row.alloc, parts)?;
+    for (list, parts, wanted) in &POLYGONS {
+        let row = Row::new(&rt, rt.alloc(), *list);
+        let given = texts::contour(&row, *list)?;
+        let parts = offsets(row.alloc, *parts)?;
         let (points, parts) = (given.as_slice(), parts.as_slice());
         assert!(row.rt; points.is_in_safe_range());
         assert!(row.rt; do_divide(parts, points.len()));
         let found = validity_of(row.alloc, points, parts);
-        row.equal(found, wanted, "the first fault");
+        row.equal(found, *wanted, "the first fault");
     }
     Ok(())
 }
@@ -384,10 +384,10 @@ const PARTS: [(&str, usize, bool); 9] = [
 
 #[test]
 fn offsets_divide_points_or_do_not(rt: HostRuntime) -> Result<(), Fail> {
-    for (parts, count, wanted) in PARTS {
-        let row = Row::new(&rt, rt.alloc(), parts);
-        let parts = offsets(row.alloc, parts)?;
-        row.equal(do_divide(parts.as_slice(), count), wanted, "divide");
+    for (parts, count, wanted) in &PARTS {
+        let row = Row::new(&rt, rt.alloc(), *parts);
+        let parts = offsets(row.alloc, *parts)?;
+        row.equal(do_divide(parts.as_slice(), *count), *wanted, "divide");
     }
     Ok(())
 }

@@ -41,9 +41,10 @@ const CONVEX: [(&str, bool); 17] = [
 
 #[test]
 fn convex_or_not_in_both_directions(rt: HostRuntime) -> Result<(), Fail> {
-    for (list, wanted) in CONVEX {
-        let points = texts::points(rt.alloc(), list)?;
-        is_convex(&Row::new(&rt, rt.alloc(), list), points.as_slice(), wanted)?;
+    for (list, wanted) in &CONVEX {
+        let row = Row::new(&rt, rt.alloc(), *list);
+        let points = texts::points(row.alloc, *list)?;
+        is_convex(&row, points.as_slice(), *wanted)?;
     }
     Ok(())
 }
@@ -70,12 +71,12 @@ const REPEATED: [(&str, bool); 3] = [
 
 #[test]
 fn repeated_points_and_rotations_keep_convexity(rt: HostRuntime) -> Result<(), Fail> {
-    for (name, wanted) in REPEATED {
-        let row = Row::new(&rt, rt.alloc(), name);
-        let list = texts::points(row.alloc, name)?;
+    for (name, wanted) in &REPEATED {
+        let row = Row::new(&rt, rt.alloc(), *name);
+        let list = texts::points(row.alloc, *name)?;
         for start in 0..list.len() {
             let turned = rotated(row.alloc, list.as_slice(), start)?;
-            stays_convex(&row, turned.as_slice(), wanted)?;
+            stays_convex(&row, turned.as_slice(), *wanted)?;
         }
     }
     Ok(())
@@ -119,9 +120,9 @@ fn is_told(
 fn contains_the_points_with_an_odd_number_of_edges_to_the_right(
     rt: HostRuntime,
 ) -> Result<(), Fail> {
-    for (list, point, is_inside, times) in PLACES {
-        let row = Row::new(&rt, rt.alloc(), list);
-        is_told(&row, list, point, (is_inside, times))?;
+    for (list, point, is_inside, times) in &PLACES {
+        let row = Row::new(&rt, rt.alloc(), *list);
+        is_told(&row, *list, *point, (*is_inside, *times))?;
     }
     Ok(())
 }

@@ -22,16 +22,16 @@ const FORMS: [[&str; 3]; 2] = [
 #[test]
 fn forms_of_shapes(rt: HostRuntime) -> Result<(), Fail> {
     let alloc = rt.alloc();
-    for [name, form, either] in FORMS {
-        let row = Row::new(&rt, alloc, name);
-        let given = texts::shape(&row, name)?;
+    for [name, form, either] in &FORMS {
+        let row = Row::new(&rt, alloc, *name);
+        let given = texts::shape(&row, *name)?;
         let kept = given.as_slice().canonical(alloc)?.ok_or("it collapsed")?;
-        row.holds(kept == texts::shape(&row, form)?, "the form");
+        row.holds(kept == texts::shape(&row, *form)?, "the form");
         let kept = given
             .as_slice()
             .canonical_unoriented(alloc)?
             .ok_or("it collapsed")?;
-        row.holds(kept == texts::shape(&row, either)?, "either way round");
+        row.holds(kept == texts::shape(&row, *either)?, "either way round");
     }
     Ok(())
 }

@@ -199,18 +199,18 @@ const RANGES: [(&str, bool, &str); 3] = [
 
 #[test]
 fn bad_ranges_are_passed_over(rt: HostRuntime) -> Result<(), Fail> {
-    for (name, readable, lent) in RANGES {
-        let row = Row::new(&rt, rt.alloc(), name);
+    for (name, readable, lent) in &RANGES {
+        let row = Row::new(&rt, rt.alloc(), *name);
         let points = whole(row.alloc, "1 2 3 4")?;
-        let ranges = texts::ranges(row.alloc, name)?;
+        let ranges = texts::ranges(row.alloc, *name)?;
         let mut contours = FloatFlatContoursBuffer::new(row.alloc);
         contours.set_flat(points.as_slice(), ranges.as_slice())?;
-        row.equal(contours.can_read_contours(), readable, "contours");
-        has_contours(&row, &contours, ["1 2 3 4", name, lent])?;
+        row.equal(contours.can_read_contours(), *readable, "contours");
+        has_contours(&row, &contours, ["1 2 3 4", *name, *lent])?;
         let mut shapes = FloatFlatShapesBuffer::new(row.alloc);
         shapes.set_flat(points.as_slice(), ranges.as_slice(), &[])?;
-        row.equal(shapes.can_read_contours(), readable, "shapes");
-        has_shapes(&row, &shapes, ["1 2 3 4", name, "", lent])?;
+        row.equal(shapes.can_read_contours(), *readable, "shapes");
+        has_shapes(&row, &shapes, ["1 2 3 4", *name, "", *lent])?;
     }
     Ok(())
 }

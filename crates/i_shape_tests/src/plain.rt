@@ -42,21 +42,36 @@ fn is_back(a: Pair, b: Pair, c: Pair) -> bool {
             <= 0
 }
 
-/// Whether the vertex at a place is a zero turn, and whether it is a back vertex.
-fn turn_at(list: &[Pair], place: usize) -> (bool, bool)
+/// Returns the points before and after a place on the cycle.
+fn neighbours(list: &[Pair], place: usize) -> [Pair; 2]
     requires { place < length list.now }
 {
-    let [a, c] = [
+    [
         list[before(list.len(), place)],
         list[after(list.len(), place)],
-    ];
-    (is_zero_turn(a, list[place], c), is_back(a, list[place], c))
+    ]
+}
+
+/// Returns whether the vertex at a place is a zero turn.
+fn is_zero_turn_at(list: &[Pair], place: usize) -> bool
+    requires { place < length list.now }
+{
+    let [a, c] = neighbours(list, place);
+    is_zero_turn(a, list[place], c)
+}
+
+/// Returns whether the vertex at a place is a back vertex: the tip of a spike, or a repeated point.
+fn is_back_at(list: &[Pair], place: usize) -> bool
+    requires { place < length list.now }
+{
+    let [a, c] = neighbours(list, place);
+    is_back(a, list[place], c)
 }
 
 /// Whether some vertex of the list is a back vertex, the closing edge included.
 pub fn has_back_vertex(list: &[Pair]) -> bool {
     for place in 0..list.len() {
-        if turn_at(list, place).1 {
+        if is_back_at(list, place) {
             return true;
         }
     }
@@ -78,7 +93,7 @@ fn zero_turn(list: &[Pair], order: Order) -> Option<usize>
             Order::First => step,
             Order::Last => list.len() - 1 - step,
         };
-        if turn_at(list, place).0 {
+        if is_zero_turn_at(list, place) {
             return Some(place);
         }
     }
@@ -163,7 +178,7 @@ pub fn ring_walk(alloc: Global, list: &[Pair]) -> Result<(Vec<Pair>, u128), Allo
             break;
         }
         visits = visits.wrapping_add(1);
-        if turn_at(ring.as_slice(), place).1 {
+        if is_back_at(ring.as_slice(), place) {
             ring.remove(place);
             untested = untested.max(2).min(count - 1);
             place = if place == 0 { count - 2 } else { place - 1 };

@@ -43,15 +43,15 @@ const TURNS: [([[i32; 2]; 3], i64, i64, Turn); 8] = [
 
 #[test]
 fn a_turn_is_told_by_its_three_points(rt: HostRuntime) -> Result<(), Fail> {
-    for (points, cross, dot, turn) in TURNS {
+    for (points, cross, dot, turn) in &TURNS {
         let row = Row::new(&rt, rt.alloc(), "three points");
-        turns::<i32>(&row, points, turn)?;
-        let [[ax, ay], [bx, by], [cx, cy]] = points;
+        turns::<i32>(&row, *points, *turn)?;
+        let [[ax, ay], [bx, by], [cx, cy]] = *points;
         let first = IntPoint::new(bx.wrapping_sub(ax), by.wrapping_sub(ay));
         let second = IntPoint::new(cx.wrapping_sub(bx), cy.wrapping_sub(by));
         assert!(rt; i32::MIN < first.x, "too long for the product");
-        row.equal(first.cross_product(second), cross, "cross");
-        row.equal(first.dot_product(second), dot, "dot");
+        row.equal(first.cross_product(second), *cross, "cross");
+        row.equal(first.dot_product(second), *dot, "dot");
     }
     Ok(())
 }

@@ -90,8 +90,8 @@ fn are_cleaned_as_by_plain_loops(
 #[test]
 fn every_small_list_is_cleaned_as_by_plain_loops(rt: HostRuntime) -> Result<(), Fail> {
     let row = Row::new(&rt, rt.alloc(), "at most five points");
-    for (count, codes) in [(0, 1), (1, 6), (2, 36), (3, 216), (4, 1296), (5, 7776)] {
-        are_cleaned_as_by_plain_loops(&row, count, 0..codes, 1)?;
+    for (count, codes) in &[(0, 1), (1, 6), (2, 36), (3, 216), (4, 1296), (5, 7776)] {
+        are_cleaned_as_by_plain_loops(&row, *count, 0..*codes, 1)?;
     }
     Ok(())
 }

@@ -271,10 +271,10 @@ fn loses_spikes(row: &Row<'_, impl Abort>, list: &[Pair], ring: &[Pair]) -> Resu
 #[test]
 fn every_start_and_direction_leaves_the_same_ring(rt: HostRuntime) -> Result<(), Fail> {
     let alloc = rt.alloc();
-    for (name, ring, is_spiked) in HOSTILE {
-        let row = Row::new(&rt, alloc, name);
-        let list = texts::points(alloc, name)?;
-        let ring = texts::points(alloc, ring)?;
+    for (name, ring, is_spiked) in &HOSTILE {
+        let row = Row::new(&rt, alloc, *name);
+        let list = texts::points(alloc, *name)?;
+        let ring = texts::points(alloc, *ring)?;
         let back = rotated(alloc, ring.as_slice(), 1.min(ring.len()))?;
         let back = reversed(alloc, back.as_slice())?;
         for start in 0..list.len() {
@@ -283,7 +283,7 @@ fn every_start_and_direction_leaves_the_same_ring(rt: HostRuntime) -> Result<(),
             for (list, ring) in [(list, &ring), (turned, &back)] {
                 let (list, ring) = (list.as_slice(), ring.as_slice());
                 let despiked = leaves_ring(&row, list, ring)?;
-                if is_spiked {
+                if *is_spiked {
                     row.holds(is_rotation(despiked.as_slice(), ring), "despiked");
                     loses_spikes(&row, list, ring)?;
                 }

@@ -1,7 +1,7 @@
 //! The cleaners of one contour.
 
 use crate::given::{FLAT, SPIKED, SQUARE, contour, safe};
-use crate::told::{begun, call, compared, ended, on};
+use crate::told::{begun, call, call_twice, compared, ended, on};
 use i_shape::int::despike::{ContourDeSpiker, DeSpike, DeSpikeContour};
 use i_shape::int::simple::{ContourSimplifier, SimpleContour, Simplify};
 
@@ -34,8 +34,8 @@ fn of_a_used_cleaner(rt: HostRuntime) {
     let points = safe(&rt, SPIKED.as_slice());
     let mut simplifier = ContourSimplifier::new(rt.alloc());
     if simplifier.simplify_counted(safe(&rt, &SPIKED[..5])).is_ok() {
-        call!(rt, "ContourSimplifier::simplify_counted" => simplifier.simplify_counted(points));
-        call!(rt, "ContourSimplifier::simplify_counted again" => simplifier.simplify_counted(points));
+        call_twice!(rt, "ContourSimplifier::simplify_counted" => simplifier.simplify_counted(points));
+        call_twice!(rt, "ContourSimplifier::simplify_counted again" => simplifier.simplify_counted(points));
         let fresh = ContourSimplifier::new(rt.alloc()).simplify_counted(points);
         compared(
             &rt,
@@ -62,16 +62,21 @@ fn of_a_clean_contour(rt: HostRuntime) {
 fn below_three_points(rt: HostRuntime) {
     let alloc = rt.alloc();
     let points = safe(&rt, &SQUARE[..2]);
-    let mut simplifier = ContourSimplifier::new(alloc);
     call!(rt, "SimpleContour::simplified below three points" => points.simplified(alloc));
     call!(rt, "SimpleContour::canonical below three points" => points.canonical(alloc));
     call!(rt, "SimpleContour::canonical_unoriented below three points" => points.canonical_unoriented(alloc));
-    call!(rt, "ContourSimplifier::simplify_contour below three points" => simplifier.simplify_contour(points));
-    call!(rt, "ContourSimplifier::simplify_counted below three points" => simplifier.simplify_counted(points));
-    call!(rt, "ContourSimplifier::canonical below three points" => simplifier.canonical(points));
-    call!(rt, "ContourSimplifier::canonical_unoriented below three points" => simplifier.canonical_unoriented(points));
     call!(rt, "DeSpikeContour::despiked_contour below three points" => points.despiked_contour(alloc));
     call!(rt, "DeSpikeContour::despiked_counted below three points" => points.despiked_counted(alloc));
+}
+
+#[test]
+fn below_three_points_by_a_simplifier(rt: HostRuntime) {
+    let points = safe(&rt, &SQUARE[..2]);
+    let mut simplifier = ContourSimplifier::new(rt.alloc());
+    call_twice!(rt, "ContourSimplifier::simplify_contour below three points" => simplifier.simplify_contour(points));
+    call_twice!(rt, "ContourSimplifier::simplify_counted below three points" => simplifier.simplify_counted(points));
+    call_twice!(rt, "ContourSimplifier::canonical below three points" => simplifier.canonical(points));
+    call_twice!(rt, "ContourSimplifier::canonical_unoriented below three points" => simplifier.canonical_unoriented(points));
 }
 
 #[test]
@@ -79,6 +84,11 @@ fn in_place(rt: HostRuntime) {
     let alloc = rt.alloc();
     on!(rt, contour(&rt, alloc, &SPIKED), "IntContour::simplify_contour", it => it.simplify_contour());
     on!(rt, contour(&rt, alloc, &SPIKED), "IntContour::remove_spikes", it => it.remove_spikes());
+}
+
+#[test]
+fn in_place_where_nothing_is_cleaned(rt: HostRuntime) {
+    let alloc = rt.alloc();
     on!(rt, contour(&rt, alloc, &SQUARE), "IntContour::simplify_contour of a clean value", it => it.simplify_contour());
     on!(rt, contour(&rt, alloc, &SQUARE), "IntContour::remove_spikes of a clean value", it => it.remove_spikes());
     on!(rt, contour(&rt, alloc, &SQUARE[..1]), "IntContour::simplify_contour below three points", it => it.simplify_contour());

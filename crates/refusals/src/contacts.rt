@@ -4,7 +4,8 @@ use crate::given::{SQUARE, points, safe};
 use crate::told::{answered, begun, spared};
 use i_shape::int::IntPoint;
 use i_shape_contacts::{
-    do_divide, first_contact, first_contact_of_rings, is_simple_polygon, validity_of,
+    Contact, contacts, contacts_of_rings, do_divide, first_contact, first_contact_of_rings,
+    is_simple_polygon, validity_of,
 };
 
 /// Steps, of which the last edge touches one before it.
@@ -32,8 +33,14 @@ const STEPS: [IntPoint<i32>; 18] = points![
 /// The points of `STEPS` without the last two.
 const CLEAR: usize = 16;
 
+/// Room for two contacts.
+const BLANK: [Contact; 2] = [Contact {
+    first: 0,
+    second: 0,
+}; 2];
+
 #[test]
-fn contacts_of_a_contour(rt: HostRuntime) {
+fn meetings_of_a_contour(rt: HostRuntime) {
     let alloc = rt.alloc();
     let points = safe(&rt, STEPS.as_slice());
     spared!(rt, "first_contact" => first_contact(alloc, points));
@@ -42,13 +49,15 @@ fn contacts_of_a_contour(rt: HostRuntime) {
     spared!(rt, "first_contact of a contour without one" => first_contact(alloc, clear));
     let few = safe(&rt, SQUARE.as_slice());
     spared!(rt, "first_contact of few points" => first_contact(alloc, few));
+    let mut out = BLANK;
+    spared!(rt, "contacts" => contacts(alloc, points, out.as_mut_slice()));
 }
 
 /// Rings of a point each.
 const RINGS: usize = 64;
 
 #[test]
-fn contacts_of_rings(rt: HostRuntime) {
+fn meetings_of_rings(rt: HostRuntime) {
     let alloc = rt.alloc();
     let mut points = [IntPoint { x: 0, y: 0 }; RINGS];
     let mut offsets = [0; RINGS + 1];
@@ -69,4 +78,6 @@ fn contacts_of_rings(rt: HostRuntime) {
     assert!(rt; do_divide(offsets, few.len()), "offsets");
     spared!(rt, "first_contact_of_rings of few rings" => first_contact_of_rings(alloc, few, offsets));
     spared!(rt, "validity_of" => validity_of(alloc, few, offsets));
+    let mut out = BLANK;
+    spared!(rt, "contacts_of_rings" => contacts_of_rings(alloc, few, offsets, out.as_mut_slice()));
 }

@@ -5,7 +5,7 @@ use crate::flat_buffers::{
 };
 use crate::given::{MARK, SPIKED, SQUARE, TRIANGLE, shape};
 use crate::spots::{self, PAIR, Repeated, Spot, TRIPLE};
-use crate::told::{begun, call, compared, ended, on};
+use crate::told::{begun, call, ended, on};
 use i_shape::flat::buffer::{FlatContoursBuffer, FlatShapesBuffer};
 use i_shape::flat::float::{FloatFlatContoursBuffer, FloatFlatShapesBuffer};
 
@@ -27,14 +27,20 @@ fn cloned(rt: HostRuntime) {
     on!(rt, spot_shapes(alloc, &spots::BOTH, &[0..2, 2..5]), "FloatFlatShapesBuffer::clone", it => it.clone());
 }
 
-/// Capacity 0, and a copy of an empty buffer, take no memory.
+/// Capacity 0 takes no memory.
 #[test]
-fn new_and_cloned_of_nothing(rt: HostRuntime) {
+fn new_of_nothing(rt: HostRuntime) {
     let alloc = rt.alloc();
     call!(rt, "FlatContoursBuffer::with_capacity of nothing" => FlatContoursBuffer::<i32>::with_capacity(alloc, 0));
     call!(rt, "FlatShapesBuffer::with_capacity of nothing" => FlatShapesBuffer::<i32>::with_capacity(alloc, 0, 0, 0));
     call!(rt, "FloatFlatContoursBuffer::with_capacity of nothing" => FloatFlatContoursBuffer::<Spot>::with_capacity(alloc, 0, 0));
     call!(rt, "FloatFlatShapesBuffer::with_capacity of nothing" => FloatFlatShapesBuffer::<Spot>::with_capacity(alloc, 0, 0, 0));
+}
+
+/// A copy of an empty buffer takes no memory.
+#[test]
+fn cloned_of_nothing(rt: HostRuntime) {
+    let alloc = rt.alloc();
     call!(rt, "FlatContoursBuffer::clone of nothing" => FlatContoursBuffer::<i32>::new(alloc).clone());
     call!(rt, "FlatShapesBuffer::clone of nothing" => FlatShapesBuffer::<i32>::new(alloc).clone());
     call!(rt, "FloatFlatContoursBuffer::clone of nothing" => FloatFlatContoursBuffer::<Spot>::new(alloc).clone());
@@ -48,6 +54,11 @@ fn set_with_nothing(rt: HostRuntime) {
     on!(rt, shapes(alloc, &[], &[]), "FlatShapesBuffer::clear_and_reserve of nothing", it => it.clear_and_reserve(0, 0, 0));
     on!(rt, contours(alloc, &[], &[]), "FlatContoursBuffer::set_with_shapes of nothing", it => it.set_with_shapes(&[]));
     on!(rt, shapes(alloc, &[], &[]), "FlatShapesBuffer::set_with_shapes of nothing", it => it.set_with_shapes(&[]));
+}
+
+#[test]
+fn set_with_no_points_of_any_kind(rt: HostRuntime) {
+    let alloc = rt.alloc();
     on!(rt, spot_contours(alloc, &[], &[]), "FloatFlatContoursBuffer::set_flat of nothing", it => it.set_flat(&[], &[]));
     on!(rt, spot_shapes(alloc, &[], &[]), "FloatFlatShapesBuffer::set_flat of nothing", it => it.set_flat(&[], &[], &[]));
     on!(rt, spot_contours(alloc, &[], &[]), "FloatFlatContoursBuffer::set_with_iter of nothing",
@@ -66,10 +77,15 @@ fn reserved(rt: HostRuntime) {
 }
 
 #[test]
-fn set_with_contours_and_shapes(rt: HostRuntime) {
+fn set_with_a_contour(rt: HostRuntime) {
     let alloc = rt.alloc();
     on!(rt, contours(alloc, &MARK, &[]), "FlatContoursBuffer::set_with_contour", it => it.set_with_contour(&SQUARE));
     on!(rt, shapes(alloc, &MARK, &[]), "FlatShapesBuffer::set_with_contour", it => it.set_with_contour(&SQUARE));
+}
+
+#[test]
+fn set_with_shapes(rt: HostRuntime) {
+    let alloc = rt.alloc();
     let Ok(given) = shape(&rt, alloc, &[&SQUARE, &TRIANGLE]) else {
         return;
     };
@@ -117,11 +133,16 @@ fn set_by_an_iterator(rt: HostRuntime) {
 }
 
 #[test]
-fn set_flat_and_with_resources(rt: HostRuntime) {
+fn set_flat(rt: HostRuntime) {
     let alloc = rt.alloc();
     on!(rt, spot_contours(alloc, &spots::MARK, &[]), "FloatFlatContoursBuffer::set_flat", it => it.set_flat(&spots::BOTH, &[0..2, 2..5]));
     on!(rt, spot_shapes(alloc, &spots::MARK, &[]), "FloatFlatShapesBuffer::set_flat",
         it => it.set_flat(&spots::BOTH, &[0..2, 2..5], &[0..1, 1..2]));
+}
+
+#[test]
+fn set_with_resources(rt: HostRuntime) {
+    let alloc = rt.alloc();
     let paths = [PAIR.as_slice(), TRIPLE.as_slice()];
     on!(rt, spot_contours(alloc, &spots::MARK, &[]), "FloatFlatContoursBuffer::set_with_resource", it => it.set_with_resource(&paths));
     on!(rt, spot_shapes(alloc, &spots::MARK, &[]), "FloatFlatShapesBuffer::set_with_resource", it => it.set_with_resource(&paths));

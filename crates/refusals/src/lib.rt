@@ -1,7 +1,7 @@
 //! Calls whose growths fail one by one. A test makes one call after another, and prints `NAME begins` before each and
-//! `NAME done` or `NAME refused` after it; if setup runs out of memory, the call is skipped. If no growth fails, each
-//! call is done. A call that fails leaves its argument unchanged, and each returns and leaves the same as a second one
-//! that succeeds. A call that can do without memory prints `NAME answered` either way.
+//! `NAME done` or `NAME refused` after it; if setup runs out of memory, the test ends. If no growth fails, each call is
+//! done. A call that fails leaves its argument unchanged. A cleaner that is used again after a failure returns what it
+//! does without one. A call that can do without memory prints `NAME answered` either way.
 #![tactic(auto)]
 
 #[cfg(test)]

@@ -3,7 +3,7 @@
 use crate::flat_buffers::{contours, shapes, spot_contours, spot_shapes};
 use crate::given::{SQUARE, TRIANGLE, one_shape, safe, shape};
 use crate::spots;
-use crate::told::{begun, call, compared, ended, on};
+use crate::told::{begun, call, ended, on};
 use i_shape::int::IntPoint;
 use i_shape::int::area::{Area, IteratorArea, UnsafeArea};
 use i_shape::int::count::PointsCount;
@@ -18,19 +18,25 @@ use i_shape_core::canonical::least_start_counted;
 #[test]
 fn tests_of_a_contour(rt: HostRuntime) {
     let points = safe(&rt, SQUARE.as_slice());
-    let centre = IntPoint::new(1, 1);
-    assert!(rt; !points.is_empty() && centre.is_in_safe_range());
+    assert!(rt; !points.is_empty());
     call!(rt, "SimpleContour::is_simple" => Ok(points.is_simple()));
     call!(rt, "DeSpikeContour::has_no_spikes" => Ok(points.has_no_spikes()));
     call!(rt, "ContourExtension::is_convex" => Ok(points.is_convex()));
     call!(rt, "ContourExtension::is_clockwise_ordered" => Ok(points.is_clockwise_ordered()));
+    call!(rt, "FillRule::fills" => Ok(FillRule::Negative.fills(-1)));
+}
+
+#[test]
+fn points_in_a_contour(rt: HostRuntime) {
+    let points = safe(&rt, SQUARE.as_slice());
+    let centre = IntPoint::new(1, 1);
+    assert!(rt; centre.is_in_safe_range());
     call!(rt, "ContourExtension::contains_point" => Ok(points.contains_point(centre)));
     call!(rt, "ContourExtension::winding_number" => Ok(points.winding_number(centre)));
     call!(rt, "ContourExtension::contains_by" => Ok(points.contains_by(centre, FillRule::NonZero)));
     let mut numbers = [7; 5];
     assert!(rt; points.len() <= numbers.len());
     call!(rt, "ContourExtension::winding_numbers_into" => Ok(points.winding_numbers_into(points, &mut numbers)));
-    call!(rt, "FillRule::fills" => Ok(FillRule::Negative.fills(-1)));
 }
 
 /// The numbers that are written over. They take no memory.

@@ -38,12 +38,12 @@ const TEXTS: [(Command, [&str; 2], &str); 7] = [
 
 #[test]
 fn runs(rt: HostRuntime) -> Result<(), Fail> {
-    for (command, [text, wanted], kind) in TEXTS {
+    for (command, [text, wanted], kind) in &TEXTS {
         println!(rt; "run of {command:?}{kind} begins")?;
-        match run(rt.alloc(), command, text) {
+        match run(rt.alloc(), *command, *text) {
             Ok(answer) => {
                 println!(rt; "run of {command:?}{kind} done")?;
-                assert_eq!(rt; answer.as_str(), wanted);
+                assert_eq!(rt; answer.as_str(), *wanted);
             }
             Err(fault) => {
                 println!(rt; "run of {command:?}{kind} refused")?;

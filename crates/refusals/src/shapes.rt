@@ -2,7 +2,7 @@
 //! and the macros.
 
 use crate::given::{SPIKED, SQUARE, TRIANGLE, one_shape, shape};
-use crate::told::{begun, call, compared, ended, on};
+use crate::told::{begun, call, ended, on};
 use i_shape::int::canonical::{CanonicalShape, CanonicalShapes};
 use i_shape::int::despike::{DeSpike, DeSpikeShape, DeSpikeShapes};
 use i_shape::int::simple::{SimpleShape, SimpleShapes, Simplify};

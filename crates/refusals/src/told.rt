@@ -32,8 +32,8 @@ pub fn answered(rt: &(impl Abort + Print), name: &str) {
     println!(rt; "{name} answered").expect(rt, name);
 }
 
-/// Compares a call with a second one of an equal value. A run makes one growth fail, so at most one of them fails. If
-/// neither fails, both return and leave the same.
+/// Compares two calls of a value that keeps something from one call to the next. A run makes one growth fail, so at most
+/// one of them fails. If neither fails, both return and leave the same.
 pub fn compared<T: PartialEq + Drop>(
     rt: &impl Abort,
     name: &str,
@@ -48,14 +48,18 @@ pub fn compared<T: PartialEq + Drop>(
     assert!(rt; is_same, "{name}: a second call differs");
 }
 
-/// A call, by its name. It is made a second time, and both results are compared. One written as `Ok` can't fail, and is
-/// made once.
+/// A call, by its name.
 macro_rules! call {
-    ($rt:ident, $name:expr => Ok($answer:expr)) => {{
+    ($rt:ident, $name:expr => $outcome:expr) => {{
         begun(&$rt, $name);
-        let outcome = Ok($answer);
+        let outcome = $outcome;
         ended(&$rt, $name, &outcome, true);
     }};
+}
+
+/// A call of a value that keeps something from one call to the next. It is made a second time, and both results are
+/// compared.
+macro_rules! call_twice {
     ($rt:ident, $name:expr => $outcome:expr) => {{
         begun(&$rt, $name);
         let first = $outcome;
@@ -65,25 +69,22 @@ macro_rules! call {
 }
 
 /// A call that may change its argument. If it fails, the argument is unchanged, or equals `refused`. If setup runs out
-/// of memory, the call is skipped.
+/// of memory, the test ends.
 macro_rules! on {
     ($rt:ident, $given:expr, $name:expr, $value:ident => $outcome:expr) => {
         on!($rt, $given, $name, $value => $outcome, refused => $given)
     };
-    ($rt:ident, $given:expr, $name:expr, $value:ident => $outcome:expr, refused => $refused:expr) => {
-        if let (Ok(mut $value), Ok(equal), Ok(unchanged)) = ($given, $given, $refused) {
-            begun(&$rt, $name);
-            let first = $outcome;
-            ended(&$rt, $name, &first, $value == unchanged);
-            let left = $value;
-            let mut $value = equal;
-            let second = $outcome;
-            compared(&$rt, $name, (first, second), left == $value);
-        }
-    };
+    ($rt:ident, $given:expr, $name:expr, $value:ident => $outcome:expr, refused => $refused:expr) => {{
+        let (Ok(mut $value), Ok(unchanged)) = ($given, $refused) else {
+            return;
+        };
+        begun(&$rt, $name);
+        let outcome = $outcome;
+        ended(&$rt, $name, &outcome, $value == unchanged);
+    }};
 }
 
-/// A call that can do without memory, by its name. It is made a second time, and returns the same.
+/// A call that can do without memory, by its name. It is made a second time, with memory, and returns the same.
 macro_rules! spared {
     ($rt:ident, $name:expr => $answer:expr) => {{
         begun(&$rt, $name);
@@ -95,5 +96,6 @@ macro_rules! spared {
 }
 
 pub(crate) use call;
+pub(crate) use call_twice;
 pub(crate) use on;
 pub(crate) use spared;

@@ -3,7 +3,7 @@
 use crate::flat_buffers::{contours, shapes, spot_contours, spot_shapes};
 use crate::given::{FLAT, MARK, SQUARE, TRIANGLE, one_shape, safe};
 use crate::spots::{self, PAIR, Spot, TRIPLE};
-use crate::told::{begun, call, compared, ended};
+use crate::told::{begun, call, ended};
 use i_shape::IntNumber;
 use i_shape::flat::buffer::{FlatContoursBuffer, FlatShapesBuffer};
 use i_shape::flat::float::{FloatFlatContoursBuffer, FloatFlatShapesBuffer};

@@ -6,12 +6,12 @@ ghost use Rattle.std.specs.List.{All};
 ghost use Rattle.i_shape.specs.IntPoint.{contour_of, IsSafe};
 
 use crate::given::{FLAT, SPIKED, SQUARE, TURNED, safe};
-use crate::told::{begun, call, compared, ended, on};
+use crate::told::{begun, call_twice, compared, ended};
+use i_shape::IntNumber;
 use i_shape::int::IntPoint;
 use i_shape::int::cleaner::{Canonicalizer, ContourCleaner, SpikeRemover, UnorientedCanonicalizer};
 use i_shape::int::despike::ContourDeSpiker;
 use i_shape::int::simple::ContourSimplifier;
-use i_shape::{IntNumber, ShapeError};
 use std::alloc::Global;
 use std::process::Abort;
 
@@ -25,12 +25,10 @@ fn few<'a, I: IntNumber>(rt: &impl Abort, points: &'a [IntPoint<I>]) -> &'a [Int
     kept
 }
 
-/// The slice that is written into. It takes no memory.
-fn room() -> Result<[IntPoint<i32>; 6], ShapeError> {
-    Ok([IntPoint { x: 9, y: 9 }; 6])
-}
+/// What a slice holds before it is written into.
+const ROOM: [IntPoint<i32>; 6] = [IntPoint { x: 9, y: 9 }; 6];
 
-/// A call of a new cleaner, by its name, and a second one of another new cleaner.
+/// A call of a new cleaner, by its name.
 fn writes_anew<C: ContourCleaner>(
     rt: &(impl Abort + Print),
     name: &str,
@@ -40,7 +38,10 @@ fn writes_anew<C: ContourCleaner>(
     requires points_safe { All (IsSafe w32) (contour_of (λ z. z) points.now) }
     requires room { length points.now ≤ 6 }
 {
-    on!(rt, room(), name, out => C::new(alloc).try_clean_into(points, &mut out));
+    let mut out = ROOM;
+    begun(rt, name);
+    let outcome = C::new(alloc).try_clean_into(points, &mut out);
+    ended(rt, name, &outcome, out == ROOM);
 }
 
 /// Two calls of the cleaner, by their name.
@@ -53,7 +54,12 @@ fn writes<C: ContourCleaner>(
     requires points_safe { All (IsSafe w32) (contour_of (λ z. z) points.now) }
     requires room { length points.now ≤ 6 }
 {
-    on!(rt, room(), name, out => cleaner.try_clean_into(points, &mut out));
+    let (mut out, mut again) = (ROOM, ROOM);
+    begun(rt, name);
+    let first = cleaner.try_clean_into(points, &mut out);
+    ended(rt, name, &first, out == ROOM);
+    let second = cleaner.try_clean_into(points, &mut again);
+    compared(rt, name, (first, second), out == again);
 }
 
 #[test]
@@ -111,7 +117,7 @@ fn by_a_used_cleaner(rt: HostRuntime) {
 fn with_room(rt: HostRuntime) {
     let (four, six) = (few(&rt, &SPIKED[..4]), few(&rt, SPIKED.as_slice()));
     let mut simplifier = ContourSimplifier::new(rt.alloc());
-    call!(rt, "ContourSimplifier::reserve" => simplifier.reserve(6));
+    call_twice!(rt, "ContourSimplifier::reserve" => simplifier.reserve(6));
     writes(
         &rt,
         "ContourSimplifier::try_clean_into of four points with room",
@@ -125,7 +131,7 @@ fn with_room(rt: HostRuntime) {
         six,
     );
     let mut canonicalizer = Canonicalizer::new(rt.alloc());
-    call!(rt, "Canonicalizer::reserve" => canonicalizer.reserve(6));
+    call_twice!(rt, "Canonicalizer::reserve" => canonicalizer.reserve(6));
     writes(
         &rt,
         "Canonicalizer::try_clean_into with room",
@@ -133,7 +139,7 @@ fn with_room(rt: HostRuntime) {
         six,
     );
     let mut despiker = ContourDeSpiker::new(rt.alloc());
-    call!(rt, "ContourDeSpiker::reserve" => despiker.reserve(6));
+    call_twice!(rt, "ContourDeSpiker::reserve" => despiker.reserve(6));
     writes(
         &rt,
         "ContourDeSpiker::try_clean_into of four points with room",

@@ -54,9 +54,9 @@ const LINES: &str = "0 0 2 0 4 0 4 4 0 4\n\n1 1 2 2 3 3\n0 0 1 0 0 1\n";
 
 #[test]
 fn each_text_is_answered(rt: HostRuntime) -> Result<(), Fail> {
-    for (command, text, wanted) in ANSWERED {
-        let row = Row::new(&rt, rt.alloc(), text);
-        serves(&row, (&[command], text.as_bytes()), (0, wanted, ""))?;
+    for (command, text, wanted) in &ANSWERED {
+        let row = Row::new(&rt, rt.alloc(), *text);
+        serves(&row, (&[*command], text.as_bytes()), (0, *wanted, ""))?;
     }
     Ok(())
 }
@@ -77,9 +77,9 @@ const ANSWERS: [(Command, &str); 5] = [
 fn a_long_text_is_answered(rt: HostRuntime) -> Result<(), Fail> {
     let row = Row::new(&rt, rt.alloc(), "3,000 lines");
     let text = LINE.repeat(row.alloc, 3_000)?;
-    for (command, answer) in ANSWERS {
+    for (command, answer) in &ANSWERS {
         let wanted = answer.repeat(row.alloc, 3_000)?;
-        let is_answered = match run(row.alloc, command, text.as_str()) {
+        let is_answered = match run(row.alloc, *command, text.as_str()) {
             Ok(output) => output == wanted,
             Err(_fault) => false,
         };

@@ -89,19 +89,22 @@ fn a_read_fails(rt: HostRuntime) -> Result<(), Fail> {
     Ok(())
 }
 
+/// A text, the room for its answer, whether the writer then fails, and what it keeps.
+const WRITTEN: [(&str, usize, bool, &str); 6] = [
+    ("\n", 0, true, ""),
+    ("\n", 0, false, ""),
+    ("\n", 4, true, "none"),
+    ("\n", 4, false, "none"),
+    ("\n", 5, true, "none\n"),
+    ("", 0, true, ""),
+];
+
 /// The writer holds as much of the answer as it has room for, and nothing else.
 #[test]
 fn a_write_or_flush_fails(rt: HostRuntime) -> Result<(), Fail> {
     let row = Row::new(&rt, rt.alloc(), "a write");
-    for (text, room, fails, kept) in [
-        ("\n", 0, true, ""),
-        ("\n", 0, false, ""),
-        ("\n", 4, true, "none"),
-        ("\n", 4, false, "none"),
-        ("\n", 5, true, "none\n"),
-        ("", 0, true, ""),
-    ] {
-        let mut output = BrokenWriter::new(row.alloc, room, fails);
+    for (text, room, fails, kept) in &WRITTEN {
+        let mut output = BrokenWriter::new(row.alloc, *room, *fails);
         let mut errors = Vec::new(row.alloc);
         let mut input = text.as_bytes();
         let ended = status_of(&row, &["simplify"], &mut input, &mut output, &mut errors)?;

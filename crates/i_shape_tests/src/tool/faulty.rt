@@ -1,4 +1,4 @@
-//! Texts and words that aren't answered.
+//! Texts and words for which the program reports a fault.
 
 use crate::row::Row;
 use crate::tool::given::serves;
@@ -6,10 +6,10 @@ use i_shape_tool::{Command, ToolFault, run};
 use std::process::Abort;
 use std::test::Fail;
 
-/// Each of these commands reports this of the line that is the row's name.
-fn tell(row: &Row<'_, impl Abort>, commands: &[&str], told: &str) -> Result<(), Fail> {
+/// Checks that each of the commands, with the row's name as its input, reports this message and writes nothing else.
+fn each_reports(row: &Row<'_, impl Abort>, commands: &[&str], message: &str) -> Result<(), Fail> {
     for command in commands {
-        serves(row, (&[*command], row.name.as_bytes()), (1, "", told))?;
+        serves(row, (&[*command], row.name.as_bytes()), (1, "", message))?;
     }
     Ok(())
 }
@@ -32,13 +32,13 @@ const FAULTY: [&str; 10] = [
 
 /// Each command reports a malformed line, and each but the last, `area`, a point that isn't safe.
 #[test]
-fn a_faulty_line_is_told(rt: HostRuntime) -> Result<(), Fail> {
-    for line in FAULTY {
-        let row = Row::new(&rt, rt.alloc(), line);
-        tell(&row, &COMMANDS, "line 1: not a contour\n")?;
+fn a_faulty_line_is_reported(rt: HostRuntime) -> Result<(), Fail> {
+    for line in &FAULTY {
+        let row = Row::new(&rt, rt.alloc(), *line);
+        each_reports(&row, &COMMANDS, "line 1: not a contour\n")?;
     }
     let row = Row::new(&rt, rt.alloc(), "1073741824 0 0 0 0 1");
-    tell(&row, &COMMANDS[..4], "line 1: out of range\n")
+    each_reports(&row, &COMMANDS[..4], "line 1: out of range\n")
 }
 
 const RANGE: &str = "out of range";
@@ -53,14 +53,14 @@ const FIRST_FAULTS: [(Command, &str, (&str, usize)); 3] = [
 ];
 
 #[test]
-fn the_first_fault_is_told(rt: HostRuntime) {
-    for (command, text, fault) in FIRST_FAULTS {
-        let got = match run(rt.alloc(), command, text) {
+fn the_first_fault_is_reported(rt: HostRuntime) {
+    for (command, text, fault) in &FIRST_FAULTS {
+        let got = match run(rt.alloc(), *command, *text) {
             Err(ToolFault::OutOfRange(line)) => (RANGE, line),
             Err(ToolFault::NotAContour(line)) => (CONTOUR, line),
             _ => ("", 0),
         };
-        Row::new(&rt, rt.alloc(), text).equal(got, fault, "the fault");
+        Row::new(&rt, rt.alloc(), *text).equal(got, *fault, "the fault");
     }
 }
 
@@ -80,9 +80,9 @@ const REFUSED: [(&[&str], &[u8], u8, &str); 5] = [
 
 #[test]
 fn a_fault_of_words_or_input_leaves_no_output(rt: HostRuntime) -> Result<(), Fail> {
-    for (words, input, status, told) in REFUSED {
-        let row = Row::new(&rt, rt.alloc(), told);
-        serves(&row, (words, input), (status, "", told))?;
+    for (words, input, status, told) in &REFUSED {
+        let row = Row::new(&rt, rt.alloc(), *told);
+        serves(&row, (*words, *input), (*status, "", *told))?;
     }
     Ok(())
 }

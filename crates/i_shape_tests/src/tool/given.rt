@@ -22,8 +22,8 @@ pub fn status_of<R: Read, W: Write, E: Write>(
     Ok(serve(row.alloc, words.as_slice(), input, output, errors))
 }
 
-/// A run with these words and this input leaves this. Words that name no command leave the input unread, and all others
-/// nothing of it.
+/// Checks what a run with these words and this input returns and writes. Words that name no command leave the input
+/// unread; others read all of it.
 pub fn serves(
     row: &Row<'_, impl Abort>,
     (words, input): (&[&str], &[u8]),
@@ -37,6 +37,6 @@ pub fn serves(
     row.equal(ended, status, "the status");
     row.equal(rest.len(), unread, "the unread input");
     row.equal(printed.as_slice(), output.as_bytes(), "the output");
-    row.equal(errors.as_slice(), told.as_bytes(), "what is told");
+    row.equal(errors.as_slice(), told.as_bytes(), "the message");
     Ok(())
 }
