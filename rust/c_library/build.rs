@@ -5,7 +5,7 @@ use std::env;
 
 fn main() {
     // cuts the contracts from the source of the library
-    erase::build_library("i_shape_c");
+    erase::build_library("i_shape_c_calls");
     let told = |name| env::var(name).unwrap_or_default();
     let (major, minor) = (
         told("CARGO_PKG_VERSION_MAJOR"),
@@ -16,7 +16,7 @@ fn main() {
     } else {
         major
     };
-    println!("cargo::rustc-check-cfg=cfg(weak_names)");
+    println!("cargo::rustc-check-cfg=cfg(weak_names, for_javascript)");
     if told("CARGO_CFG_TARGET_VENDOR") == "apple" {
         println!("cargo::rustc-cdylib-link-arg=-Wl,-install_name,@rpath/libi_shape.{named}.dylib");
     } else if told("CARGO_CFG_TARGET_FAMILY") == "unix" {
@@ -24,7 +24,7 @@ fn main() {
         println!("cargo::rustc-cdylib-link-arg=-Wl,-soname,libi_shape.so.{named}");
     }
     if told("CARGO_CFG_TARGET_OS") == "linux" {
-        // not each C compiler tells its linker to
+        // some C compilers don't ask their linker for one
         println!("cargo::rustc-cdylib-link-arg=-Wl,--build-id=sha1");
     }
 }

@@ -76,7 +76,8 @@ unsafe extern "C" fn own_dealloc(at: *mut c_void) {
     unsafe { free(at) }
 }
 
-/// Gives a function of the library a name that is weak, so that a program may define it otherwise.
+/// Gives a function of the library a name that is weak, so that a program may define it otherwise. `#[linkage]` isn't
+/// stable.
 macro_rules! weak {
     ($name:literal, $function:path) => {
         #[cfg(weak_names)]

@@ -48,8 +48,8 @@ impl Block {
     }
 }
 
-/// Whether the memory reaches to `end`, after it has grown where it must: by an eighth at least, as each growth takes
-/// time, where so much is left.
+/// Whether the memory reaches to `end`, once it has grown if it must. It grows by an eighth or more, if so much is
+/// left, since each growth takes time.
 fn reaches(end: usize) -> bool {
     let pages = wasm32::memory_size::<0>();
     let wanted = end.div_ceil(PAGE);

@@ -9,6 +9,9 @@ use std::path::PathBuf;
 
 /// Erases a crate of the clone, and those that it uses, into the folder that cargo gives the build script, for
 /// `include!(concat!(env!("OUT_DIR"), "/erased/mod.rs"))`. Modules that are left out are named as `crate::module`.
+///
+/// The included file has `mod` lines alone, and modules are files beside it, which messages, debuggers and `cargo doc`
+/// name.
 pub fn build(name: &str, left_out: &[&str]) {
     build_all(&[name], left_out);
 }

@@ -196,7 +196,7 @@ impl Crates {
         macros: &BTreeMap<Vec<String>, Vec<String>>,
         dropped: &BTreeSet<String>,
     ) -> Result<(String, Vec<Cut>), Fault> {
-        let is_library_for_c = name.ends_with("_c");
+        let is_library_for_c = name.ends_with("_c_calls");
         let modules = edit_modules(&parsed, is_library_for_c, |module| {
             empty.contains(&child(&file.modules, module))
         });

@@ -56,6 +56,8 @@ impl Lent {
     }
 }
 
+/// What the names of calls have that the package for JavaScript doesn't make. Its module leaves these out.
+const NOT_FOR_JAVASCRIPT: &str = "_features_";
 const SAFETY: &str = "/// # Safety\n///\n/// docs/C.md says what a caller owes.\n";
 
 impl Lender<'_> {
@@ -80,8 +82,13 @@ impl Lender<'_> {
             (SAFETY, "unsafe ")
         };
         let (name, result, arguments) = (&call.name, &call.result, arguments.join(", "));
+        let condition = if name.contains(NOT_FOR_JAVASCRIPT) {
+            "#[cfg(not(for_javascript))]\n"
+        } else {
+            ""
+        };
         format!(
-            "\n{safety}#[unsafe(no_mangle)]\npub {is_unsafe}extern \"C\" fn {name}({parameters}) -> {result} {{\n\
+            "\n{safety}{condition}#[unsafe(no_mangle)]\npub {is_unsafe}extern \"C\" fn {name}({parameters}) -> {result} {{\n\
              {made}    {path}::{name}({arguments})\n}}\n"
         )
     }

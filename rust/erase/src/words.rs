@@ -54,10 +54,11 @@ const STD: [&str; 2] = ["fmt", "io"];
 /// The attributes that Rust has too.
 const ATTRIBUTES: [&str; 5] = ["cfg", "derive", "inline", "repr", "test"];
 
-const MACROS: [&str; 27] = [
+const MACROS: [&str; 28] = [
     "assert",
     "assert_eq",
     "call",
+    "call_twice",
     "cleans",
     "count",
     "count_each",

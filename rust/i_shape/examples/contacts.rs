@@ -6,8 +6,9 @@ use i_shape::int_path;
 fn main() {
     let bow_tie = int_path![[0_i32, 0], [4, 4], [4, 0], [0, 4]];
     println!("a simple polygon: {}", bow_tie.is_simple_polygon());
-    for contact in bow_tie.contacts() {
-        if let Some(kind) = bow_tie.kind_of_contact(contact) {
+    let contacts = bow_tie.contacts();
+    for (contact, kind) in contacts.iter().zip(bow_tie.kinds_of_contacts(&contacts)) {
+        if let Some(kind) = kind {
             println!("edges {} and {}: {kind:?}", contact.first, contact.second);
         }
     }

@@ -9,7 +9,7 @@ use crate::erased::i_shape_c::measures::{ContourMeasure, measure_contours};
 use crate::erased::i_shape_c::places;
 use crate::erased::i_shape_c::point::CPoint;
 use crate::erased::i_shape_c::predicates::{self, ContourTest, test_contour};
-use crate::erased::i_shape_c::version::i_shape_version;
+use crate::erased::i_shape_c::version::version;
 use crate::erased::i_shape_c::{area, winding as about};
 use crate::erased::i_shape_contacts as edges;
 use crate::erased::i_shape_contacts::course::{Course, Cycle, Rings};
@@ -69,7 +69,7 @@ pub(crate) type CleanShapes<I> = fn(
 /// Returns the version of the library: its major, minor and patch number.
 #[must_use]
 pub fn library_version() -> (u32, u32, u32) {
-    let version = i_shape_version();
+    let version = version();
     (version >> 16, version >> 8 & 0xff, version & 0xff)
 }
 
@@ -79,18 +79,17 @@ pub(crate) fn first_bad_offset(offsets: &[usize], count: usize) -> Option<usize>
     (index < offsets.len()).then_some(index)
 }
 
-/// Reads what a call on points returns: a number, or a code below 0. Offsets were tested before.
+/// Reads what a call on points returns: a number, or a code below 0. Offsets and room were tested
+/// before.
 fn number<I: IntNumber>(returned: isize, points: &[IntPoint<I>]) -> Result<usize, Error> {
     let is = |refusal: Refusal| returned == refusal.code() as isize;
     usize::try_from(returned).map_err(|_| {
         if is(Refusal::Unsafe) {
             Error::UnsafePoint(places::first_unsafe(points))
-        } else if is(Refusal::NoRoom) {
-            Error::NoRoom
         } else if is(Refusal::NoMemory) {
             Error::NoMemory
         } else {
-            unreachable!("the offsets were tested")
+            unreachable!("the offsets and the room were tested")
         }
     })
 }
@@ -126,12 +125,26 @@ fn check_about<I: IntNumber>(returned: isize, about: &[IntPoint<I>]) -> Result<(
     }
 }
 
+/// If a call has the error of a short slice: returns the error of the first one that is, by the room of
+/// each and what it needs.
+pub(crate) fn check_room(returned: isize, slices: &[(usize, usize)]) -> Result<(), Error> {
+    if returned != Refusal::NoRoom.code() as isize {
+        return Ok(());
+    }
+    match slices.iter().find(|(room, needed)| room < needed) {
+        Some(&(room, needed)) => Err(Error::NoRoom { room, needed }),
+        None => Ok(()),
+    }
+}
+
 /// Cleans a contour to the front of `out`, and returns the number of points written there.
 pub(crate) fn clean_one<C: ContourCleaner, I: IntNumber>(
     points: &[IntPoint<I>],
     out: &mut [IntPoint<I>],
 ) -> Result<usize, Error> {
-    number(clean_contour::<_, C>(Global, points, out), points)
+    let returned = clean_contour::<_, C>(Global, points, out);
+    check_room(returned, &[(out.len(), points.len())])?;
+    number(returned, points)
 }
 
 /// Returns what a cleaner leaves of the contour, `None` if it collapses. The cleaner keeps its memory.
@@ -165,6 +178,11 @@ pub(crate) fn clean_many<I: IntNumber>(
     out_offsets: &mut [usize],
 ) -> Result<usize, Error> {
     let returned = call(Global, points, offsets, out_points, out_offsets);
+    let slices = [
+        (out_points.len(), points.len()),
+        (out_offsets.len(), offsets.len()),
+    ];
+    check_room(returned, &slices)?;
     number_of_many(returned, points, offsets)
 }
 
@@ -219,6 +237,7 @@ pub(crate) fn windings<I: IntNumber>(
     out: &mut [isize],
 ) -> Result<(), Error> {
     let returned = about::windings(Global, points, offsets, about, out) as isize;
+    check_room(returned, &[(out.len(), about.len())])?;
     check_about(returned, about)?;
     number_of_many(returned, points, offsets).map(drop)
 }
@@ -314,7 +333,7 @@ pub(crate) fn first_contact_of_many<I: IntNumber>(
 /// Returns the contacts of the edges of a contour.
 pub(crate) fn contacts<I: IntNumber>(points: &[IntPoint<I>]) -> Result<Vec<Contact>, Error> {
     check_safe(points)?;
-    listed(points.len(), 0, |out| edges::contacts(points, out))
+    listed(points.len(), 0, |out| edges::contacts(Global, points, out))
 }
 
 /// Returns the contacts of the edges of all contours, whose offsets begin with 0 and end with the
@@ -327,7 +346,7 @@ pub(crate) fn contacts_of_many<I: IntNumber>(
     debug_assert!(edges::do_divide(offsets, points.len()));
     check_safe(points).map_err(|error| error.behind(before))?;
     listed(points.len(), before, |out| {
-        edges::contacts_of_rings(points, offsets, out)
+        edges::contacts_of_rings(Global, points, offsets, out)
     })
 }
 
@@ -363,6 +382,18 @@ pub(crate) fn kind_of_contact<I: IntNumber>(
     Ok(kind_if_contact(points, Cycle { count }, contact))
 }
 
+/// Returns the kind of each contact of the edges of a contour, `None` if it is none.
+pub(crate) fn kinds_of_contacts<I: IntNumber>(
+    points: &[IntPoint<I>],
+    contacts: &[Contact],
+) -> Result<Vec<Option<ContactKind>>, Error> {
+    check_safe(points)?;
+    let count = points.len();
+    made_of_each(contacts.iter(), |&contact| {
+        Ok(kind_if_contact(points, Cycle { count }, contact))
+    })
+}
+
 /// Returns the kind of a contact of the edges of all contours, whose offsets begin with 0 and end with
 /// the number of points; `None` if it is none. So many points lie before these.
 pub(crate) fn kind_of_contact_of_many<I: IntNumber>(
@@ -373,12 +404,34 @@ pub(crate) fn kind_of_contact_of_many<I: IntNumber>(
 ) -> Result<Option<ContactKind>, Error> {
     debug_assert!(edges::do_divide(offsets, points.len()));
     check_safe(points).map_err(|error| error.behind(before))?;
-    let Some(first) = contact.first.checked_sub(before) else {
-        return Ok(None);
-    };
+    Ok(kind_behind(points, offsets, before, contact))
+}
+
+/// The same of each of many contacts.
+pub(crate) fn kinds_of_contacts_of_many<I: IntNumber>(
+    points: &[IntPoint<I>],
+    offsets: &[usize],
+    before: usize,
+    contacts: &[Contact],
+) -> Result<Vec<Option<ContactKind>>, Error> {
+    debug_assert!(edges::do_divide(offsets, points.len()));
+    check_safe(points).map_err(|error| error.behind(before))?;
+    made_of_each(contacts.iter(), |&contact| {
+        Ok(kind_behind(points, offsets, before, contact))
+    })
+}
+
+/// Returns the kind of a contact by indices of a list in which so many points lie before these, `None`
+/// if it is none. The points are safe.
+fn kind_behind<I: IntNumber>(
+    points: &[IntPoint<I>],
+    offsets: &[usize],
+    before: usize,
+    contact: Contact,
+) -> Option<ContactKind> {
+    let first = contact.first.checked_sub(before)?;
     let second = contact.second.saturating_sub(before);
-    let here = Contact { first, second };
-    Ok(kind_if_contact(points, Rings { offsets }, here))
+    kind_if_contact(points, Rings { offsets }, Contact { first, second })
 }
 
 /// Returns the kind of a contact, `None` if these edges aren't in contact. The points are safe.

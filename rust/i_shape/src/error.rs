@@ -13,19 +13,57 @@ pub enum Error {
     /// A point that the call is asked about lies outside that range. Holds the index of the first
     /// such point among these.
     UnsafeAbout(usize),
-    /// Offsets of contours don't divide the points, or can't be made. Holds the index of the first
-    /// that is below the one before it, above the number of points, or can't be made, and `None` if
-    /// there is no offset. Offsets are tested before the points are.
-    BadOffsets(Option<usize>),
-    /// Offsets of shapes don't divide the contours. Holds the index of the first that is below the
-    /// one before it or above the number of contours, and `None` if there is no offset.
-    BadShapeOffsets(Option<usize>),
+    /// Offsets of contours don't divide the points, or ranges don't join. Holds the first one at
+    /// fault, and `None` if there is no offset. Offsets are tested before the points are.
+    BadOffsets(Option<BadOffset>),
+    /// Offsets of shapes don't divide the contours. Holds the first one at fault, and `None` if there
+    /// is no offset.
+    BadShapeOffsets(Option<BadOffset>),
     /// A slice that the call writes is too short. Slices are tested before the points are.
-    NoRoom,
+    NoRoom {
+        /// The number of items of the slice.
+        room: usize,
+        /// The number of items that it needs.
+        needed: usize,
+    },
     /// An allocation failed, or a vector would be too long.
     NoMemory,
     /// A contour has no point, and so no area.
     NoPoint,
+}
+
+/// An offset that is below the one before it, or above the number of items.
+#[derive(Clone, Copy, Debug, PartialEq, Eq, Hash)]
+pub struct BadOffset {
+    /// Its index among the offsets.
+    pub index: usize,
+    /// The offset itself.
+    pub offset: usize,
+    /// The least that it may be: the one before it, or 0.
+    pub least: usize,
+    /// The most that it may be: the number of items. Of ranges, where one starts, the end of the one
+    /// before, and where it ends, `usize::MAX`.
+    pub most: usize,
+}
+
+impl BadOffset {
+    /// Writes what is wrong. `items` names what the offsets are of, where that needs words.
+    fn write(self, formatter: &mut fmt::Formatter<'_>, items: &str) -> fmt::Result {
+        let BadOffset {
+            index,
+            offset,
+            least,
+            most,
+        } = self;
+        write!(formatter, "offset {index}{items} is {offset}, and not ")?;
+        if least == most {
+            write!(formatter, "{least}")
+        } else if most == usize::MAX {
+            write!(formatter, "at least {least}")
+        } else {
+            write!(formatter, "from {least} to {most}")
+        }
+    }
 }
 
 /// The safe range, in the words of messages: an error doesn't know the width of its point.
@@ -43,21 +81,16 @@ impl fmt::Display for Error {
                     "point {index} of those asked about isn't in the {SAFE_RANGE}"
                 )
             }
-            Error::BadOffsets(Some(index)) => {
-                write!(
-                    formatter,
-                    "offset {index} is below the one before it, out of range, or can't be made"
-                )
-            }
+            Error::BadOffsets(Some(bad)) => bad.write(formatter, ""),
             Error::BadOffsets(None) => formatter.write_str("there is no offset"),
-            Error::BadShapeOffsets(Some(index)) => {
+            Error::BadShapeOffsets(Some(bad)) => bad.write(formatter, " of shapes"),
+            Error::BadShapeOffsets(None) => formatter.write_str("there is no offset of shapes"),
+            Error::NoRoom { room, needed } => {
                 write!(
                     formatter,
-                    "offset {index} of shapes is below the one before it, or out of range"
+                    "a slice for the result has room for {room} items, fewer than {needed}"
                 )
             }
-            Error::BadShapeOffsets(None) => formatter.write_str("there is no offset of shapes"),
-            Error::NoRoom => formatter.write_str("a slice for the result is too short"),
             Error::NoMemory => formatter.write_str("out of memory"),
             Error::NoPoint => formatter.write_str("a contour has no point, and so no area"),
         }

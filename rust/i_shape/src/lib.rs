@@ -24,6 +24,7 @@
 extern crate alloc;
 
 pub mod base;
+mod both_forms;
 mod calls;
 mod erased;
 mod error;
@@ -34,9 +35,8 @@ mod location;
 mod macros;
 mod memory;
 pub mod source;
-mod twins;
 
 pub use calls::library_version;
-pub use error::Error;
+pub use error::{BadOffset, Error};
 pub use fill_rule::FillRule;
 pub use location::Location;

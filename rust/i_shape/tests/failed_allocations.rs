@@ -143,6 +143,7 @@ fn contours<I: Number>() {
         second: 3,
     };
     assert_eq!(growths(|| spiked.try_kind_of_contact(edges)), 0);
+    assert_eq!(growths(|| spiked.try_kinds_of_contacts(&[edges])), 1);
     // room for as many contacts as points, and for those that there are
     assert_eq!(growths(|| clean.try_contacts()), 1);
     assert_eq!(growths(|| spiked.try_contacts()), 2);
@@ -290,6 +291,8 @@ fn batches<I: Number>() {
     assert_eq!(growths(|| behind.try_contacts()), 4);
     assert_eq!(growths(|| all.try_kind_of_contact(edges)), 0);
     assert_eq!(growths(|| behind.try_kind_of_contact(edges)), 1);
+    assert_eq!(growths(|| all.try_kinds_of_contacts(&[edges])), 1);
+    assert_eq!(growths(|| behind.try_kinds_of_contacts(&[edges])), 2);
     let about = [point([1, 1]); 3];
     assert_eq!(growths(|| all.try_are_simple()), 1);
     assert_eq!(growths(|| all.try_have_no_spikes()), 1);

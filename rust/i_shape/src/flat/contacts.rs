@@ -3,15 +3,18 @@
 use super::offsets::try_rebased;
 use super::{Contours, Shapes};
 use crate::Error;
-use crate::calls::{contacts_of_many, first_contact_of_many, kind_of_contact_of_many, validity_of};
+use crate::both_forms::both_forms;
+use crate::calls::{
+    contacts_of_many, first_contact_of_many, kind_of_contact_of_many, kinds_of_contacts_of_many,
+    validity_of,
+};
 use crate::int::IntNumber;
 use crate::int::contacts::{Contact, ContactKind, Validity};
 use crate::memory::made_of_each;
-use crate::twins::twins;
 use alloc::vec::Vec;
 
 impl<I: IntNumber> Contours<'_, I> {
-    twins! {
+    both_forms! {
         /// Returns the first [contact](crate::int::contacts) of the edges of all contours together,
         /// within a contour or between two. Its indices are of [`points`](Contours::points).
         ///
@@ -36,8 +39,7 @@ impl<I: IntNumber> Contours<'_, I> {
 
         /// Returns all [contacts](crate::int::contacts) of the edges of all contours together, within a
         /// contour or between two: by the first edge, and those of one edge by the second. Indices are
-        /// of [`points`](Contours::points). It tries all pairs of edges, again if there are more
-        /// contacts than points.
+        /// of [`points`](Contours::points). It searches again if there are more contacts than points.
         contacts, must_use;
         /// Returns [`Error::UnsafePoint`] if a point of a contour isn't safe, [`Error::NoMemory`] if
         /// there is none for as many contacts as points, for all contacts, or for a copy of the
@@ -50,22 +52,8 @@ impl<I: IntNumber> Contours<'_, I> {
 
         /// Returns whether two edges cross, touch or overlap, by indices of
         /// [`points`](Contours::points). `None` if they aren't in contact, `first` isn't below
-        /// `second`, or no contour has a point.
-        ///
-        /// ```
-        /// use i_shape::flat::Contours;
-        /// use i_shape::int::AsIntPoints;
-        /// use i_shape::int::contacts::ContactKind;
-        ///
-        /// // a square, and in it a hole that touches its upper edge
-        /// let points = [[0_i32, 0], [9, 0], [9, 9], [0, 9], [2, 2], [4, 9], [6, 2]];
-        /// let contours = Contours::new(points.as_int_points(), &[0, 4, 7]);
-        /// let contacts = contours.contacts();
-        /// assert_eq!(contacts.len(), 2); // with the edges to and from (4, 9)
-        /// for contact in contacts {
-        ///     assert_eq!(contours.kind_of_contact(contact), Some(ContactKind::Touch));
-        /// }
-        /// ```
+        /// `second`, or no contour has a point. Each call tests all points: of many contacts take
+        /// [`kinds_of_contacts`](Contours::kinds_of_contacts).
         kind_of_contact, must_use;
         /// Returns [`Error::UnsafePoint`] if a point of a contour isn't safe, also one of another edge.
         /// If the first offset is above 0, the offsets are copied: [`Error::NoMemory`] if that
@@ -75,11 +63,38 @@ impl<I: IntNumber> Contours<'_, I> {
             let rebased = try_rebased(self.offsets)?;
             kind_of_contact_of_many(&self.points[before..], &rebased, before, contact)
         }
+
+        /// Returns of each contact, in order, what [`kind_of_contact`](Contours::kind_of_contact) does.
+        ///
+        /// ```
+        /// use i_shape::flat::Contours;
+        /// use i_shape::int::AsIntPoints;
+        /// use i_shape::int::contacts::ContactKind;
+        ///
+        /// // a square, and in it a hole that touches its upper edge
+        /// let points = [[0_i32, 0], [9, 0], [9, 9], [0, 9], [2, 2], [4, 9], [6, 2]];
+        /// let contours = Contours::new(points.as_int_points(), &[0, 4, 7]);
+        /// // with the edges to and from (4, 9)
+        /// let kinds = contours.kinds_of_contacts(&contours.contacts());
+        /// assert_eq!(kinds, [Some(ContactKind::Touch); 2]);
+        /// ```
+        kinds_of_contacts, must_use;
+        /// Returns [`Error::UnsafePoint`] if a point of a contour isn't safe, also one of another edge,
+        /// [`Error::NoMemory`] if there is none for the result, or for a copy of the offsets, which is
+        /// made if the first of them is above 0.
+        pub fn try_kinds_of_contacts(
+            self,
+            contacts: &[Contact],
+        ) -> Result<Vec<Option<ContactKind>>, Error> {
+            let before = self.offsets[0];
+            let rebased = try_rebased(self.offsets)?;
+            kinds_of_contacts_of_many(&self.points[before..], &rebased, before, contacts)
+        }
     }
 }
 
 impl<I: IntNumber> Shapes<'_, I> {
-    twins! {
+    both_forms! {
         /// Returns of each polygon, in order, the first [contact](crate::int::contacts) of the edges
         /// of its contours. Its indices are of [`points`](Shapes::points), the points of all
         /// polygons. Edges of different polygons aren't compared.
@@ -92,8 +107,8 @@ impl<I: IntNumber> Shapes<'_, I> {
 
         /// Returns of each polygon, in order, all [contacts](crate::int::contacts) of the edges of its
         /// contours, as [`Contours::contacts`] does. Their indices are of [`points`](Shapes::points).
-        /// Edges of different polygons aren't compared. [`Contours::kind_of_contact`] of
-        /// [`as_contours`](Shapes::as_contours) takes them, and that of the polygon alone.
+        /// Edges of different polygons aren't compared. [`Contours::kinds_of_contacts`] of the polygon
+        /// takes them, and that of [`as_contours`](Shapes::as_contours) those of all.
         contacts, must_use;
         /// Returns [`Error::UnsafePoint`] if a point of a polygon isn't safe, [`Error::NoMemory`] if an
         /// allocation fails.

@@ -1,13 +1,13 @@
 //! Contours end to end in one list of points.
 
 use super::offsets::{append, ranges, try_append_part, try_fit, try_rebased, try_sum};
+use crate::both_forms::both_forms;
 use crate::calls::{
     Canonicalizer, CleanMany, ContourDeSpiker, ContourSimplifier, Filled, Located,
     UnorientedCanonicalizer, are_safe, clean_contours, clean_many, tell, windings,
 };
 use crate::int::{IntNumber, IntPoint};
 use crate::memory::{copied, try_filled, try_reserve, try_with_capacity};
-use crate::twins::twins;
 use crate::{Error, FillRule, Location};
 use alloc::vec;
 use alloc::vec::Vec;
@@ -35,7 +35,7 @@ macro_rules! cleaners {
         $cleaner:ident: $try_cleaned:ident, $cleaned:ident, $try_into:ident, $into:ident,
         $alias:literal, $leaves:literal;
     )*) => {
-        twins! {
+        both_forms! {
             $(
                 #[doc = concat!("Returns each contour ", $leaves, ".")]
                 /// A contour that [collapses](crate::int::simple) is left empty, at its index.
@@ -71,7 +71,7 @@ macro_rules! cleaners {
 }
 
 impl<'a, I: IntNumber> Contours<'a, I> {
-    twins! {
+    both_forms! {
         /// Returns the contours that the offsets divide the points into. Points outside the offsets
         /// aren't read.
         new, must_use;
@@ -158,7 +158,7 @@ impl<'a, I: IntNumber> Contours<'a, I> {
             "in canonical form without regard to direction, the lesser of the forms of both ways";
     }
 
-    twins! {
+    both_forms! {
         /// Returns the sum of the contours' winding numbers about each of the points. Of the contours
         /// of a shape it decides what a fill rule fills.
         winding_numbers, must_use;
@@ -259,7 +259,7 @@ impl<I: IntNumber> OwnedContours<I> {
         }
     }
 
-    twins! {
+    both_forms! {
         /// Returns a copy of the contours, end to end.
         from_contours, must_use;
         /// Returns [`Error::NoMemory`] if an allocation fails.

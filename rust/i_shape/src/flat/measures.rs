@@ -2,13 +2,13 @@
 
 use super::Contours;
 use crate::Error;
+use crate::both_forms::both_forms;
 use crate::calls::{Bulging, DoubleArea, Passes, SafeRange, Simple, Spikeless, Tested, measured};
 use crate::int::{IntNumber, WideIntNumber};
-use crate::twins::twins;
 use alloc::vec::Vec;
 
 impl<I: IntNumber> Contours<'_, I> {
-    twins! {
+    both_forms! {
         /// Returns of each contour, in order, whether it has at least three points, and none of them
         /// is a [zero turn](crate::int::simple).
         are_simple, must_use;

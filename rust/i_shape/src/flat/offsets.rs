@@ -1,9 +1,9 @@
 //! Offsets: one before each part of a list, and one behind the last.
 
-use crate::Error;
+use crate::both_forms::both_forms;
 use crate::calls::first_bad_offset;
 use crate::memory::{try_reserve, try_with_capacity};
-use crate::twins::twins;
+use crate::{BadOffset, Error};
 use alloc::borrow::Cow;
 use alloc::vec::Vec;
 use core::ops::Range;
@@ -15,33 +15,36 @@ pub fn are_fit(offsets: &[usize], count: usize) -> bool {
     try_fit(offsets, count).is_ok()
 }
 
-/// Tests that the offsets divide a list of `count` items. The error is the index of the first offset
-/// that doesn't, `None` if there is no offset.
-pub(super) fn try_fit(offsets: &[usize], count: usize) -> Result<(), Option<usize>> {
+/// Tests that the offsets divide a list of `count` items. The error is the first offset that doesn't,
+/// `None` if there is no offset.
+pub(super) fn try_fit(offsets: &[usize], count: usize) -> Result<(), Option<BadOffset>> {
     match first_bad_offset(offsets, count) {
         None if !offsets.is_empty() => Ok(()),
-        index => Err(index),
+        place => Err(place.map(|index| BadOffset {
+            index,
+            offset: offsets[index],
+            least: index.checked_sub(1).map_or(0, |before| offsets[before]),
+            most: count,
+        })),
     }
 }
 
-twins! {
+both_forms! {
     /// Returns the offsets of parts with these lengths, from 0 on.
     ///
     /// ```
     /// assert_eq!(i_shape::flat::offsets::from_lengths([3, 0, 4]), [0, 3, 3, 7]);
     /// ```
     from_lengths, must_use;
-    /// Returns [`Error::BadOffsets`] if the lengths add up to more than a `usize` holds,
-    /// [`Error::NoMemory`] if an allocation fails.
+    /// Returns [`Error::NoMemory`] if the lengths add up to more than a `usize` holds, or an
+    /// allocation fails.
     pub fn try_from_lengths(lengths: impl IntoIterator<Item = usize>) -> Result<Vec<usize>, Error> {
         let lengths = lengths.into_iter();
         let mut offsets = try_with_capacity(lengths.size_hint().0.saturating_add(1))?;
         let mut end: usize = 0;
         offsets.push(end);
         for length in lengths {
-            end = end
-                .checked_add(length)
-                .ok_or(Error::BadOffsets(Some(offsets.len())))?;
+            end = end.checked_add(length).ok_or(Error::NoMemory)?;
             try_reserve(&mut offsets, 1)?;
             offsets.push(end);
         }
@@ -49,30 +52,43 @@ twins! {
     }
 
     /// Returns the offsets of the parts that the ranges name, as a [`buffer`](super::buffer) has
-    /// them. Of no range they are `[0]`.
+    /// them: range k goes from offset k to offset k + 1. Of no range they are `[0]`.
     from_ranges, must_use;
     /// Returns [`Error::BadOffsets`] if a range ends before its start or starts elsewhere than
     /// where the one before it ends, [`Error::NoMemory`] if an allocation fails.
     ///
     /// ```
-    /// use i_shape::{Error, flat::offsets::try_from_ranges};
+    /// use i_shape::flat::offsets::try_from_ranges;
     ///
     /// assert_eq!(try_from_ranges(&[2..5, 5..5]), Ok(vec![2, 5, 5]));
-    /// assert_eq!(try_from_ranges(&[2..5, 6..7]), Err(Error::BadOffsets(Some(2))));
+    /// let error = try_from_ranges(&[2..5, 6..7]).unwrap_err();
+    /// assert_eq!(error.to_string(), "offset 1 is 6, and not 5");
     /// ```
     pub fn try_from_ranges(ranges: &[Range<usize>]) -> Result<Vec<usize>, Error> {
         let mut end = ranges.first().map_or(0, |range| range.start);
         let mut offsets = try_with_capacity(ranges.len().saturating_add(1))?;
         offsets.push(end);
-        for range in ranges {
-            if range.start != end || range.end < end {
-                return Err(Error::BadOffsets(Some(offsets.len())));
-            }
+        for (index, range) in ranges.iter().enumerate() {
+            check_offset(index, range.start, end, end)?;
+            check_offset(index + 1, range.end, end, usize::MAX)?;
             end = range.end;
             offsets.push(end);
         }
         Ok(offsets)
     }
+}
+
+/// Returns the error of an offset that isn't from `least` to `most`.
+fn check_offset(index: usize, offset: usize, least: usize, most: usize) -> Result<(), Error> {
+    if (least..=most).contains(&offset) {
+        return Ok(());
+    }
+    Err(Error::BadOffsets(Some(BadOffset {
+        index,
+        offset,
+        least,
+        most,
+    })))
 }
 
 /// Returns the sum of the lengths, [`Error::NoMemory`] if a `usize` doesn't hold it.

@@ -2,14 +2,14 @@
 
 use super::contours::Contours;
 use super::offsets::{append, ranges, try_append_part, try_fit, try_rebased, try_sum};
+use crate::both_forms::both_forms;
 use crate::calls::{
     Canonicalizer, CleanShapes, ContourSimplifier, Global, SpikeRemover, UnorientedCanonicalizer,
-    are_safe, clean_shapes, first_containing, form_shapes, number_of_many,
+    are_safe, check_room, clean_shapes, first_containing, form_shapes, number_of_many,
 };
 use crate::int::shape::{IntContour, IntShapes};
 use crate::int::{IntNumber, IntPoint};
 use crate::memory::{copied, made_of_each, try_reserve, try_with_capacity};
-use crate::twins::twins;
 use crate::{Error, FillRule, Location};
 use alloc::vec;
 use alloc::vec::Vec;
@@ -52,7 +52,7 @@ macro_rules! cleaners {
         $call:ident::<$cleaner:ident>: $try_cleaned:ident, $cleaned:ident, $try_into:ident,
         $into:ident, $alias:literal, $leaves:literal;
     )*) => {
-        twins! {
+        both_forms! {
             $(
                 #[doc = concat!("Returns the polygons ", $leaves, ".")]
                 /// Holes that [collapse](crate::int::simple) are left out, and so are polygons whose
@@ -89,7 +89,7 @@ macro_rules! cleaners {
 }
 
 impl<'a, I: IntNumber> Shapes<'a, I> {
-    twins! {
+    both_forms! {
         /// Returns the polygons that the offsets `shapes` divide the contours into, which the offsets
         /// `contours` divide the points into. What lies outside the offsets isn't read.
         new, must_use;
@@ -203,7 +203,7 @@ impl<'a, I: IntNumber> Shapes<'a, I> {
             "in canonical form without regard to direction: by the lesser of the forms of both ways";
     }
 
-    twins! {
+    both_forms! {
         /// Returns the sum of the winding numbers of the contours of all polygons about each of the
         /// points.
         winding_numbers, must_use;
@@ -269,7 +269,7 @@ impl<'a, I: IntNumber> Shapes<'a, I> {
         }
     }
 
-    twins! {
+    both_forms! {
         /// Returns the polygons without spikes.
         #[allow(deprecated)]
         #[deprecated(note = "renamed to `spikes_removed` and `try_spikes_removed`")]
@@ -325,6 +325,12 @@ impl<'a, I: IntNumber> Shapes<'a, I> {
             out_contours,
             out_shapes,
         );
+        let slices = [
+            (out_points.len(), points.len()),
+            (out_contours.len(), contours.len()),
+            (out_shapes.len(), shapes.len()),
+        ];
+        check_room(returned, &slices)?;
         number_of_many(returned, points, contours)
     }
 
@@ -379,7 +385,7 @@ impl<I: IntNumber> OwnedShapes<I> {
         }
     }
 
-    twins! {
+    both_forms! {
         /// Returns a copy of the polygons, end to end.
         from_shapes, must_use;
         /// Returns [`Error::NoMemory`] if an allocation fails.

@@ -3,8 +3,8 @@
 use super::shape::{IntContour, IntShape};
 use super::{IntNumber, IntPoint, WideIntNumber};
 use crate::Error;
+use crate::both_forms::both_forms;
 use crate::calls;
-use crate::twins::twins;
 
 /// Signed areas, positive for a contour that runs counterclockwise. The points needn't be safe; a
 /// sum that doesn't fit the wide type wraps.
@@ -23,7 +23,7 @@ use crate::twins::twins;
 /// assert_eq!(with_hole.area_two(), 162 - 4);
 /// ```
 pub trait Area<I: IntNumber> {
-    twins! {
+    both_forms! {
         /// Returns twice the area.
         area_two, must_use;
         /// Returns [`Error::NoPoint`] if a contour has no point.
@@ -62,7 +62,7 @@ impl<I: IntNumber> Area<I> for [IntShape<I>] {
 
 /// The double area of the points that an iterator has left, by its name of the original crate.
 pub trait UnsafeArea<I: IntNumber>: Iterator<Item = IntPoint<I>> + Sized {
-    twins! {
+    both_forms! {
         /// Returns twice the signed area, as [`Area::area_two`] does for a contour of these points.
         unsafe_area, must_use;
         /// Returns [`Error::NoPoint`] if no point is left.
@@ -84,7 +84,7 @@ impl<I: IntNumber, T: Iterator<Item = IntPoint<I>>> UnsafeArea<I> for T {}
 /// assert_eq!(corners.into_iter().rev().area(), 17);
 /// ```
 pub trait IteratorArea<I: IntNumber>: Iterator<Item = IntPoint<I>> + Sized {
-    twins! {
+    both_forms! {
         /// Returns twice the signed area.
         area_two, must_use;
         /// Returns [`Error::NoPoint`] if no point is left.

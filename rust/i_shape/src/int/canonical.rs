@@ -21,12 +21,12 @@
 use super::IntNumber;
 use super::shape::{IntContour, IntShape, IntShapes};
 use crate::Error;
+use crate::both_forms::both_forms;
 use crate::flat::OwnedShapes;
-use crate::twins::twins;
 
 /// The canonical forms of a shape.
 pub trait CanonicalShape<I: IntNumber> {
-    twins! {
+    both_forms! {
         /// Returns the canonical form: the forms of the outer contour and then of the holes that
         /// don't [collapse](super::simple), these sorted; `None` if the outer contour collapses. An
         /// empty shape is its own form.
@@ -59,7 +59,7 @@ impl<I: IntNumber> CanonicalShape<I> for [IntContour<I>] {
 
 /// The canonical forms of a list of shapes.
 pub trait CanonicalShapes<I: IntNumber> {
-    twins! {
+    both_forms! {
         /// Returns the forms of the shapes that have one, sorted.
         canonical, must_use;
         /// Returns [`Error::UnsafePoint`] if a point isn't safe, [`Error::NoMemory`] if an allocation

@@ -22,8 +22,9 @@
 //! quadratic time. They take memory for these boxes; if an allocation fails, they try all pairs of
 //! edges, with the same result.
 //!
-//! `contacts` returns them all, in quadratic time, and `kind_of_contact` whether two edges cross, touch
-//! or overlap. [`kind_of_edges`] does of any two edges.
+//! `contacts` returns them all, for contours in no spatial order in quadratic time, and
+//! `kinds_of_contacts` of each whether its edges cross, touch or overlap. [`kind_of_edges`] does of any
+//! two edges.
 //!
 //! ```
 //! use i_shape::int::contacts::{ContactKind, ContourContacts};
@@ -31,8 +32,8 @@
 //!
 //! // a square with a spike
 //! let spiked = int_path![[0_i32, 0], [4, 0], [4, 8], [4, 4], [0, 4]];
-//! let kinds = spiked.contacts().into_iter().map(|contact| spiked.kind_of_contact(contact));
-//! assert!(kinds.eq([Some(ContactKind::Overlap), Some(ContactKind::Touch)]));
+//! let kinds = spiked.kinds_of_contacts(&spiked.contacts());
+//! assert_eq!(kinds, [Some(ContactKind::Overlap), Some(ContactKind::Touch)]);
 //! ```
 //!
 //! A polygon is *valid* if none of its contours is degenerate, no two edges are in contact, each
@@ -52,8 +53,8 @@
 
 use super::shape::IntContour;
 use super::{IntNumber, IntPoint};
+use crate::both_forms::both_forms;
 use crate::flat::OwnedContours;
-use crate::twins::twins;
 use crate::{Error, calls};
 use alloc::vec::Vec;
 
@@ -81,7 +82,7 @@ pub enum ContactKind {
     Overlap,
 }
 
-twins! {
+both_forms! {
     /// Returns how two edges meet, each given by its two ends; `None` if they share no point.
     ///
     /// An edge includes its ends, and may be a single point. Unlike by
@@ -164,7 +165,7 @@ impl Validity {
 
 /// The contacts of a contour, and the test for a simple polygon.
 pub trait ContourContacts<I: IntNumber> {
-    twins! {
+    both_forms! {
         /// Returns the first contact: of the first edge that is in contact with one after it, that
         /// with the first such edge. `None` if no two edges are in contact.
         ///
@@ -174,18 +175,26 @@ pub trait ContourContacts<I: IntNumber> {
         /// Returns [`Error::UnsafePoint`] if a point isn't safe.
         fn try_first_contact(&self) -> Result<Option<Contact>, Error>;
 
-        /// Returns all contacts, by the first edge, and those of one edge by the second. It tries all
-        /// pairs of edges, again if there are more contacts than points.
+        /// Returns all contacts, by the first edge, and those of one edge by the second. It searches
+        /// again if there are more contacts than points.
         contacts, must_use;
         /// Returns [`Error::UnsafePoint`] if a point isn't safe, [`Error::NoMemory`] if there is none
         /// for as many contacts as points, or for all contacts.
         fn try_contacts(&self) -> Result<Vec<Contact>, Error>;
 
         /// Returns whether two edges cross, touch or overlap, `None` if they aren't in contact, `first`
-        /// isn't below `second`, or a point isn't there.
+        /// isn't below `second`, or a point isn't there. Each call tests all points: of many contacts
+        /// take [`kinds_of_contacts`](ContourContacts::kinds_of_contacts).
         kind_of_contact, must_use;
         /// Returns [`Error::UnsafePoint`] if a point isn't safe, also one of another edge.
         fn try_kind_of_contact(&self, contact: Contact) -> Result<Option<ContactKind>, Error>;
+
+        /// Returns of each contact, in order, what
+        /// [`kind_of_contact`](ContourContacts::kind_of_contact) does.
+        kinds_of_contacts, must_use;
+        /// Returns [`Error::UnsafePoint`] if a point isn't safe, also one of another edge,
+        /// [`Error::NoMemory`] if there is none for the result.
+        fn try_kinds_of_contacts(&self, contacts: &[Contact]) -> Result<Vec<Option<ContactKind>>, Error>;
 
         /// Returns whether the contour is the boundary of a simple polygon: it has at least three
         /// points, not all of them equal, and no contact.
@@ -212,6 +221,13 @@ impl<I: IntNumber> ContourContacts<I> for [IntPoint<I>] {
         calls::kind_of_contact(self, contact)
     }
 
+    fn try_kinds_of_contacts(
+        &self,
+        contacts: &[Contact],
+    ) -> Result<Vec<Option<ContactKind>>, Error> {
+        calls::kinds_of_contacts(self, contacts)
+    }
+
     fn try_is_simple_polygon(&self) -> Result<bool, Error> {
         calls::is_simple_polygon(self)
     }
@@ -221,7 +237,7 @@ impl<I: IntNumber> ContourContacts<I> for [IntPoint<I>] {
 ///
 /// These calls copy the contours.
 pub trait ShapeValidity<I: IntNumber> {
-    twins! {
+    both_forms! {
         /// Returns the first fault, or [`Validity::Valid`]. Faults come in this order: the first
         /// contour that is degenerate, the first contact, the first hole that is outside the outer
         /// contour, and the first hole that is within another, with the first such other. A shape

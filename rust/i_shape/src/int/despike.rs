@@ -6,14 +6,14 @@ use super::shape::{IntContour, IntShape, IntShapes};
 use super::simple::each;
 use super::{IntNumber, IntPoint};
 use crate::Error;
+use crate::both_forms::both_forms;
 use crate::calls::{ContourDeSpiker, Spikeless, clean_one, cleaned, passes};
 use crate::flat::OwnedShapes;
-use crate::twins::twins;
 use alloc::vec::Vec;
 
 /// The test and the removal of spikes.
 pub trait DeSpikeContour<I: IntNumber> {
-    twins! {
+    both_forms! {
         /// Returns whether the contour has at least three points and nowhere turns back on itself.
         /// Consecutive duplicates count once, also across the closing edge.
         has_no_spikes, must_use;
@@ -55,7 +55,7 @@ impl<I: IntNumber> DeSpikeContour<I> for [IntPoint<I>] {
 /// The test and the removal of spikes, of a shape. The test ends at the first contour that fails it,
 /// and reads none after it.
 pub trait DeSpikeShape<I: IntNumber> {
-    twins! {
+    both_forms! {
         /// Returns whether each contour passes [`DeSpikeContour::has_no_spikes`].
         has_no_spikes, must_use;
         /// Returns [`Error::UnsafePoint`] if a point that the test reads isn't safe.
@@ -87,7 +87,7 @@ impl<I: IntNumber> DeSpikeShape<I> for [IntContour<I>] {
 /// The test and the removal of spikes, of a list of shapes. The test ends at the first contour that
 /// fails it, and reads none after it.
 pub trait DeSpikeShapes<I: IntNumber> {
-    twins! {
+    both_forms! {
         /// Returns whether each contour of each shape passes [`DeSpikeContour::has_no_spikes`].
         has_no_spikes, must_use;
         /// Returns [`Error::UnsafePoint`] if a point that the test reads isn't safe.
@@ -121,7 +121,7 @@ impl<I: IntNumber> DeSpikeShapes<I> for [IntShape<I>] {
 
 /// The removal of spikes in place, of a contour, a shape or a list of shapes.
 pub trait DeSpike {
-    twins! {
+    both_forms! {
         /// Removes spikes. A contour that [collapses](super::simple), and a shape whose outer contour
         /// does, is empty afterwards; holes that collapse, and such shapes of a list, are taken out.
         /// Returns `false` if each contour passes [`DeSpikeContour::has_no_spikes`]: then nothing

@@ -2,9 +2,9 @@
 
 use super::area::Area;
 use super::{IntNumber, IntPoint, WideIntNumber};
+use crate::both_forms::both_forms;
 use crate::calls::{Bulging, contains, contains_by, passes, winding};
 use crate::flat::Contours;
-use crate::twins::twins;
 use crate::{Error, FillRule, Location};
 use alloc::vec::Vec;
 
@@ -29,7 +29,7 @@ pub type IntPaths<I> = Vec<IntPath<I>>;
 /// assert_eq!(star.locate(&star, FillRule::NonZero), [Location::OnBoundary; 5]);
 /// ```
 pub trait ContourExtension<I: IntNumber> {
-    twins! {
+    both_forms! {
         /// Returns whether the contour is convex: it has at most two points, or it never turns back
         /// on itself and doesn't turn left at one point and right at another. Consecutive duplicates
         /// count once, also across the closing edge. A contour that winds around more than once,

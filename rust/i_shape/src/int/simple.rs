@@ -8,17 +8,17 @@ use super::count::PointsCount;
 use super::shape::{IntContour, IntShape, IntShapes};
 use super::{IntNumber, IntPoint};
 use crate::Error;
+use crate::both_forms::both_forms;
 use crate::calls::{
     self, Canonicalizer, Simple, UnorientedCanonicalizer, clean_one, cleaned, cleaned_by, passes,
 };
 use crate::flat::OwnedShapes;
-use crate::twins::twins;
 use alloc::vec::Vec;
 use core::fmt;
 
 /// The test and the removal of [zero turns](self), and the canonical forms.
 pub trait SimpleContour<I: IntNumber> {
-    twins! {
+    both_forms! {
         /// Returns whether there are at least three points, and none of them is a
         /// [zero turn](self).
         is_simple, must_use;
@@ -109,7 +109,7 @@ impl<I: IntNumber> SimpleContour<I> for [IntPoint<I>] {
 /// The test and the removal of [zero turns](self), of a shape. The test ends at the first contour
 /// that isn't simple, and reads none after it.
 pub trait SimpleShape<I: IntNumber> {
-    twins! {
+    both_forms! {
         /// Returns whether each contour is [simple](SimpleContour::is_simple).
         is_simple, must_use;
         /// Returns [`Error::UnsafePoint`] if a point that the test reads isn't safe.
@@ -140,7 +140,7 @@ impl<I: IntNumber> SimpleShape<I> for [IntContour<I>] {
 /// The test and the removal of [zero turns](self), of a list of shapes. The test ends at the first
 /// contour that isn't simple, and reads none after it.
 pub trait SimpleShapes<I: IntNumber> {
-    twins! {
+    both_forms! {
         /// Returns whether each contour of each shape is [simple](SimpleContour::is_simple).
         is_simple, must_use;
         /// Returns [`Error::UnsafePoint`] if a point that the test reads isn't safe.
@@ -175,7 +175,7 @@ impl<I: IntNumber> SimpleShapes<I> for [IntShape<I>] {
 
 /// The removal of [zero turns](self) in place, of a contour, a shape or a list of shapes.
 pub trait Simplify {
-    twins! {
+    both_forms! {
         /// Removes zero turns. A contour that [collapses](self), and a shape whose outer contour
         /// does, is empty afterwards; holes that collapse, and such shapes of a list, are taken out.
         /// Returns `false` if each contour is simple: then nothing changes.
@@ -224,7 +224,7 @@ pub struct ContourSimplifier {
 }
 
 impl ContourSimplifier {
-    twins! {
+    both_forms! {
         /// Returns the contour without zero turns, as [`SimpleContour::simplified`] does.
         simplify_contour, must_use;
         /// Returns the errors of [`SimpleContour::try_simplified`].

@@ -4,9 +4,9 @@
 use super::shape::IntContour;
 use super::simple::of_each;
 use super::{IntNumber, IntPoint};
+use crate::both_forms::both_forms;
 use crate::flat::OwnedContours;
 use crate::int::path::ContourExtension;
-use crate::twins::twins;
 use crate::{Error, FillRule, Location};
 use alloc::vec::Vec;
 
@@ -15,7 +15,7 @@ use alloc::vec::Vec;
 ///
 /// Calls about many points copy the contours.
 pub trait ShapeExtension<I: IntNumber> {
-    twins! {
+    both_forms! {
         /// Returns the sum of the contours' winding numbers about `point`.
         winding_number, must_use;
         /// Returns [`Error::UnsafeAbout`] if that point isn't safe, [`Error::UnsafePoint`] if one of

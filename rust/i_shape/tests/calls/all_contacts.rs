@@ -123,6 +123,18 @@ fn behind(count: usize, kinds: &[Kind]) -> Vec<(Contact, ContactKind)> {
         .collect()
 }
 
+/// All pairs of edges of so many points, also of one point more, and the kind of each.
+fn all_pairs(
+    count: usize,
+    contacts: &[(Contact, ContactKind)],
+) -> (Vec<Contact>, Vec<Option<ContactKind>>) {
+    let kind_of = |pair| contacts.iter().find(|row| row.0 == pair).map(|row| row.1);
+    (0..=count)
+        .flat_map(|first| (0..=count).map(move |second| contact([first, second])))
+        .map(|pair| (pair, kind_of(pair)))
+        .unzip()
+}
+
 fn contours_by_hand<I: Number>() {
     let rows: [(&Written, &[Kind]); 5] = [
         (&SQUARE, &[]),
@@ -147,9 +159,8 @@ fn contours_by_hand<I: Number>() {
         let wanted = behind(0, wanted);
         let contacts: Vec<_> = wanted.iter().map(|row| row.0).collect();
         assert_eq!(given.contacts(), contacts, "{written:?}");
-        for (contact, kind) in wanted {
-            assert_eq!(given.kind_of_contact(contact), Some(kind), "{written:?}");
-        }
+        let kinds: Vec<_> = wanted.iter().map(|row| Some(row.1)).collect();
+        assert_eq!(given.kinds_of_contacts(&contacts), kinds, "{written:?}");
     }
 }
 
@@ -163,13 +174,12 @@ fn contours_of_a_grid<I: Number>() {
         let contacts: Vec<_> = wanted.iter().map(|row| row.0).collect();
         assert_eq!(given.contacts(), contacts, "{written:?}");
         assert_eq!(given.first_contact(), contacts.first().copied());
-        for first in 0..=given.len() {
-            for second in 0..=given.len() {
-                let pair = contact([first, second]);
-                let kind = wanted.iter().find(|row| row.0 == pair).map(|row| row.1);
-                assert_eq!(given.kind_of_contact(pair), kind, "{written:?} {pair:?}");
-                assert_eq!(given.try_kind_of_contact(pair), Ok(kind));
-            }
+        let (pairs, kinds) = all_pairs(given.len(), &wanted);
+        assert_eq!(given.kinds_of_contacts(&pairs), kinds, "{written:?}");
+        assert_eq!(given.try_kinds_of_contacts(&pairs), Ok(kinds.clone()));
+        for (pair, kind) in pairs.into_iter().zip(kinds) {
+            assert_eq!(given.kind_of_contact(pair), kind, "{written:?} {pair:?}");
+            assert_eq!(given.try_kind_of_contact(pair), Ok(kind));
         }
         seen.extend(wanted.into_iter().map(|row| row.1));
     }
@@ -195,12 +205,10 @@ fn rings_of_a_grid<I: Number>() {
         ] {
             let contacts: Vec<_> = wanted.iter().map(|row| row.0).collect();
             assert_eq!(given.try_contacts(), Ok(contacts), "{written:?}");
-            for first in 0..=given.points().len() {
-                for second in 0..=given.points().len() {
-                    let pair = contact([first, second]);
-                    let kind = wanted.iter().find(|row| row.0 == pair).map(|row| row.1);
-                    assert_eq!(given.kind_of_contact(pair), kind, "{written:?} {pair:?}");
-                }
+            let (pairs, kinds) = all_pairs(given.points().len(), &wanted);
+            assert_eq!(given.kinds_of_contacts(&pairs), kinds, "{written:?}");
+            for (pair, kind) in pairs.into_iter().zip(kinds) {
+                assert_eq!(given.kind_of_contact(pair), kind, "{written:?} {pair:?}");
             }
         }
     }
@@ -227,16 +235,10 @@ fn polygons_of_a_grid<I: Number>() {
         let rest = Shapes::new(flat.points(), flat.contours(), &flat.shapes()[1..]);
         assert_eq!(rest.contacts(), found[1..]);
         for (polygon, (found, wanted)) in all.iter().zip(found.into_iter().zip(wanted)) {
-            let kinds: Vec<_> = found
-                .into_iter()
-                .map(|it| {
-                    (
-                        it,
-                        polygon.kind_of_contact(it).expect("they are in contact"),
-                    )
-                })
-                .collect();
-            assert_eq!(kinds, wanted);
+            let kinds: Vec<_> = wanted.iter().map(|row| Some(row.1)).collect();
+            assert_eq!(polygon.kinds_of_contacts(&found), kinds);
+            let contacts: Vec<_> = wanted.iter().map(|row| row.0).collect();
+            assert_eq!(found, contacts);
         }
     }
 }

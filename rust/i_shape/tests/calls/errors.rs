@@ -11,7 +11,7 @@ use i_shape::int::path::ContourExtension;
 use i_shape::int::shape::{IntContour, IntShape};
 use i_shape::int::simple::{ContourSimplifier, SimpleContour, SimpleShape, SimpleShapes, Simplify};
 use i_shape::int::winding::ShapeExtension;
-use i_shape::{Error, FillRule};
+use i_shape::{BadOffset, Error, FillRule};
 use std::panic::{AssertUnwindSafe, catch_unwind};
 
 at_each_width!(
@@ -78,6 +78,13 @@ fn contours_with_an_unsafe_point<I: Number>() {
     has_error!(error, given, try_first_contact, first_contact);
     has_error!(error, given, try_contacts, contacts);
     has_error!(error, given, try_kind_of_contact, kind_of_contact, EDGES);
+    has_error!(
+        error,
+        given,
+        try_kinds_of_contacts,
+        kinds_of_contacts,
+        &[EDGES]
+    );
     has_error!(error, given, try_is_simple_polygon, is_simple_polygon);
     // also of fewer than three points
     has_error!(
@@ -209,6 +216,13 @@ fn batches_with_an_unsafe_point<I: Number>() {
     has_error!(error, behind, try_first_contact, first_contact);
     has_error!(error, behind, try_contacts, contacts);
     has_error!(error, behind, try_kind_of_contact, kind_of_contact, EDGES);
+    has_error!(
+        error,
+        behind,
+        try_kinds_of_contacts,
+        kinds_of_contacts,
+        &[EDGES]
+    );
     let behind = Shapes::new(&points, &[0, 2, 5], &[1, 2]);
     has_error!(error, behind, try_simplified, simplified);
     has_error!(error, behind, try_first_contacts, first_contacts);
@@ -233,6 +247,13 @@ fn batches_with_an_unsafe_point<I: Number>() {
     has_error!(error, contours, try_first_contact, first_contact);
     has_error!(error, contours, try_contacts, contacts);
     has_error!(error, contours, try_kind_of_contact, kind_of_contact, EDGES);
+    has_error!(
+        error,
+        contours,
+        try_kinds_of_contacts,
+        kinds_of_contacts,
+        &[EDGES]
+    );
     has_error!(error, contours, try_despiked, despiked);
     has_error!(error, contours, try_canonical, canonical);
     has_error!(
@@ -411,8 +432,22 @@ fn points_asked_about<I: Number>() {
     }
 }
 
+fn no_room(room: usize, needed: usize) -> Error {
+    Error::NoRoom { room, needed }
+}
+
+/// An offset by its index, itself, and the least and the most that it may be.
+fn bad([index, offset, least, most]: [usize; 4]) -> BadOffset {
+    BadOffset {
+        index,
+        offset,
+        least,
+        most,
+    }
+}
+
 fn slices_that_are_too_short<I: Number>() {
-    let error = Error::NoRoom;
+    let error = no_room(4, 5);
     let given = contour::<I>(&STRAIGHT);
     let mut short = contour::<I>(&SQUARE);
     has_error!(error, given, try_simplify_into, simplify_into, &mut short);
@@ -429,7 +464,7 @@ fn slices_that_are_too_short<I: Number>() {
     let contours = Contours::new(&given, &[0, 5]);
     let about = [point([1, 1]); 2];
     has_error!(
-        error,
+        no_room(1, 2),
         contours,
         try_winding_numbers_into,
         winding_numbers_into,
@@ -437,7 +472,7 @@ fn slices_that_are_too_short<I: Number>() {
         &mut [0]
     );
     // the points of the answer are one too few, and then its offsets
-    for (points, offsets) in [(4, 2), (5, 1)] {
+    for (points, offsets, error) in [(4, 2, error), (5, 1, no_room(1, 2))] {
         let (points, offsets) = (&mut given.clone()[..points], &mut [0; 2][..offsets]);
         has_error!(
             error,
@@ -474,7 +509,11 @@ fn slices_that_are_too_short<I: Number>() {
     }
 
     let shapes = Shapes::new(&given, &[0, 5], &[0, 1]);
-    for (points, contours, ends) in [(4, 2, 2), (5, 1, 2), (5, 2, 1)] {
+    for (points, contours, ends, error) in [
+        (4, 2, 2, error),
+        (5, 1, 2, no_room(1, 2)),
+        (5, 2, 1, no_room(1, 2)),
+    ] {
         let points = &mut given.clone()[..points];
         let (contours, ends) = (&mut [0; 2][..contours], &mut [0; 2][..ends]);
         has_error!(
@@ -518,42 +557,39 @@ fn slices_that_are_too_short<I: Number>() {
 
 fn offsets_that_are_bad<I: Number>() {
     let points = contour::<I>(&SQUARE);
-    let bad: [(&[usize], _); 4] = [
+    let rows: [(&[usize], _); 4] = [
         (&[], None),
-        (&[0, 5], Some(1)),
-        (&[3, 1, 4], Some(1)),
-        (&[5], Some(0)),
+        (&[0, 5], Some([1, 5, 0, 4])),
+        (&[3, 1, 4], Some([1, 1, 3, 4])),
+        (&[5], Some([0, 5, 0, 4])),
     ];
-    for (offsets, place) in bad {
-        let error = Error::BadOffsets(place);
+    for (offsets, fault) in rows {
+        let error = Error::BadOffsets(fault.map(bad));
         let answer = Contours::try_new(&points, offsets);
         has_error(error, answer, || Contours::new(&points, offsets));
         let answer = Shapes::try_new(&points, offsets, &[0]);
         has_error(error, answer, || Shapes::new(&points, offsets, &[0]));
     }
-    let bad: [(&[usize], _); 4] = [
+    let rows: [(&[usize], _); 4] = [
         (&[], None),
-        (&[0, 3], Some(1)),
-        (&[2, 1], Some(1)),
-        (&[3], Some(0)),
+        (&[0, 3], Some([1, 3, 0, 2])),
+        (&[2, 1], Some([1, 1, 2, 2])),
+        (&[3], Some([0, 3, 0, 2])),
     ];
-    for (shapes, place) in bad {
+    for (shapes, fault) in rows {
         let answer = Shapes::try_new(&points, &[0, 2, 4], shapes);
-        has_error(Error::BadShapeOffsets(place), answer, || {
+        has_error(Error::BadShapeOffsets(fault.map(bad)), answer, || {
             Shapes::new(&points, &[0, 2, 4], shapes)
         });
     }
     use i_shape::flat::offsets::{from_lengths, from_ranges, try_from_lengths, try_from_ranges};
     let lengths = [usize::MAX, 2];
-    has_error(
-        Error::BadOffsets(Some(2)),
-        try_from_lengths(lengths),
-        || from_lengths(lengths),
-    );
-    let apart = [0..2, 3..4];
-    has_error(Error::BadOffsets(Some(2)), try_from_ranges(&apart), || {
-        from_ranges(&apart)
+    has_error(Error::NoMemory, try_from_lengths(lengths), || {
+        from_lengths(lengths)
     });
+    let apart = [0..2, 3..4];
+    let error = Error::BadOffsets(Some(bad([1, 3, 2, 2])));
+    has_error(error, try_from_ranges(&apart), || from_ranges(&apart));
 }
 
 fn contours_without_a_point<I: Number>() {
@@ -598,20 +634,34 @@ fn nothing_is_written<I: Number>() {
 
 #[test]
 fn errors_have_texts() {
+    let fault = Some(bad([1, 5, 2, 4]));
     let errors = [
-        Error::UnsafePoint(1),
-        Error::UnsafeAbout(1),
-        Error::BadOffsets(Some(1)),
-        Error::BadOffsets(None),
-        Error::BadShapeOffsets(Some(1)),
-        Error::BadShapeOffsets(None),
-        Error::NoRoom,
-        Error::NoMemory,
-        Error::NoPoint,
+        (Error::UnsafePoint(1), "point 1 isn't in"),
+        (Error::UnsafeAbout(1), "point 1 of those asked about isn't"),
+        (
+            Error::BadOffsets(fault),
+            "offset 1 is 5, and not from 2 to 4",
+        ),
+        (
+            Error::BadOffsets(Some(bad([1, 6, 5, 5]))),
+            "offset 1 is 6, and not 5",
+        ),
+        (
+            Error::BadOffsets(Some(bad([1, 4, 5, usize::MAX]))),
+            "offset 1 is 4, and not at least 5",
+        ),
+        (Error::BadOffsets(None), "there is no offset"),
+        (
+            Error::BadShapeOffsets(fault),
+            "offset 1 of shapes is 5, and not from 2 to 4",
+        ),
+        (Error::BadShapeOffsets(None), "there is no offset of shapes"),
+        (no_room(4, 5), "has room for 4 items, fewer than 5"),
+        (Error::NoPoint, "a contour has no point"),
     ];
-    let texts: Vec<_> = errors.iter().map(Error::to_string).collect();
-    assert!(texts.iter().all(|text| !text.is_empty()));
-    assert!((1..9).all(|k| !texts[..k].contains(&texts[k])));
+    for (error, words) in errors {
+        assert!(error.to_string().contains(words), "{error}");
+    }
     let error: Box<dyn std::error::Error + Send + Sync> = Error::NoMemory.into();
     assert_eq!(error.to_string(), "out of memory");
     assert!(OwnedShapes::<i32>::try_from_shapes(&[] as &[IntShape<i32>]).is_ok());

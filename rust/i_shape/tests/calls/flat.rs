@@ -12,7 +12,7 @@ use i_shape::int::despike::DeSpikeContour;
 use i_shape::int::shape::IntContour;
 use i_shape::int::simple::SimpleContour;
 use i_shape::source::int::resource::IntShapeResource;
-use i_shape::{Error, FillRule, Location};
+use i_shape::{BadOffset, Error, FillRule, Location};
 
 at_each_width!(
     contours_as_one_by_one,
@@ -415,19 +415,24 @@ fn offsets_made_of_lengths_and_ranges() {
     assert_eq!(offsets::from_lengths([]), [0]);
     assert_eq!(
         offsets::try_from_lengths([usize::MAX, 1]),
-        Err(Error::BadOffsets(Some(2)))
+        Err(Error::NoMemory)
     );
     assert_eq!(offsets::from_ranges(&[0..5, 5..5, 5..8]), [0, 5, 5, 8]);
     assert_eq!(offsets::from_ranges(&[]), [0]);
-    assert_eq!(
-        offsets::try_from_ranges(&[0..5, 4..8]),
-        Err(Error::BadOffsets(Some(2)))
-    );
+    let bad = |index, offset, most| {
+        let least = 5;
+        Err(Error::BadOffsets(Some(BadOffset {
+            index,
+            offset,
+            least,
+            most,
+        })))
+    };
+    let answer = offsets::try_from_ranges(&[0..5, 4..8]);
+    assert_eq!(answer, bad(1, 4, 5));
     let (start, end) = (5, 2);
-    assert_eq!(
-        offsets::try_from_ranges(&[0..5, start..end]),
-        Err(Error::BadOffsets(Some(2)))
-    );
+    let answer = offsets::try_from_ranges(&[0..5, start..end]);
+    assert_eq!(answer, bad(2, 2, usize::MAX));
 }
 
 #[test]

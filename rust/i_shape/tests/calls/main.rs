@@ -7,6 +7,7 @@ mod errors;
 mod first_containing;
 mod flat;
 mod original_examples;
+mod original_names;
 mod own_points;
 mod shapes;
 mod shared;

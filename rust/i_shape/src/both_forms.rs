@@ -4,7 +4,7 @@
 /// before the second name are the section `Errors` of the form that returns a `Result`:
 ///
 /// ```text
-/// twins! {
+/// both_forms! {
 ///     /// Returns twice the area.
 ///     area_two, must_use;
 ///     /// Returns [`Error::NoPoint`] if there is no point.
@@ -15,7 +15,7 @@
 /// A `;` in place of the body makes it a required method of a trait. Type parameters go into
 /// square brackets. A constructor returns `Result<Self, Error>`. With `must_use` the compiler warns
 /// where the result of the form that panics isn't used; each `Result` has such a warning.
-macro_rules! twins {
+macro_rules! both_forms {
     () => {};
     (
         $(#[$both:meta])* $panics:ident $(, $must_use:ident)?;
@@ -23,9 +23,9 @@ macro_rules! twins {
             (&mut $this:ident $($arguments:tt)*) -> Result<$answer:ty, Error> $body:tt
         $($rest:tt)*
     ) => {
-        twins!(@method [$(#[$both])*] [$(#[$first])*] [$visibility] [$(#[$must_use])?] $panics $tries
+        both_forms!(@method [$(#[$both])*] [$(#[$first])*] [$visibility] [$(#[$must_use])?] $panics $tries
             [&mut $this] $this [$($($generics)*)?] [$($arguments)*] [$answer] $body);
-        twins!($($rest)*);
+        both_forms!($($rest)*);
     };
     (
         $(#[$both:meta])* $panics:ident $(, $must_use:ident)?;
@@ -33,9 +33,9 @@ macro_rules! twins {
             -> Result<$answer:ty, Error> $body:tt
         $($rest:tt)*
     ) => {
-        twins!(@method [$(#[$both])*] [$(#[$first])*] [$visibility] [$(#[$must_use])?] $panics $tries
+        both_forms!(@method [$(#[$both])*] [$(#[$first])*] [$visibility] [$(#[$must_use])?] $panics $tries
             [&$this] $this [] [$($arguments)*] [$answer] $body);
-        twins!($($rest)*);
+        both_forms!($($rest)*);
     };
     (
         $(#[$both:meta])* $panics:ident $(, $must_use:ident)?;
@@ -43,9 +43,9 @@ macro_rules! twins {
             ($($argument:ident: $type:ty),* $(,)?) -> Result<Self, Error> $body:tt
         $($rest:tt)*
     ) => {
-        twins!(@forms [$(#[$both])*] [$(#[$first])*] [$visibility] [$(#[$must_use])?] $panics $tries
+        both_forms!(@forms [$(#[$both])*] [$(#[$first])*] [$visibility] [$(#[$must_use])?] $panics $tries
             "Self::" [Self::$tries] [$($($generics)*)?] [] [$($argument: $type),*] [$($argument),*] [Self] $body);
-        twins!($($rest)*);
+        both_forms!($($rest)*);
     };
     (
         $(#[$both:meta])* $panics:ident $(, $must_use:ident)?;
@@ -53,9 +53,9 @@ macro_rules! twins {
             ($($argument:ident: $type:ty),* $(,)?) -> Result<$answer:ty, Error> $body:tt
         $($rest:tt)*
     ) => {
-        twins!(@forms [$(#[$both])*] [$(#[$first])*] [$visibility] [$(#[$must_use])?] $panics $tries
+        both_forms!(@forms [$(#[$both])*] [$(#[$first])*] [$visibility] [$(#[$must_use])?] $panics $tries
             "" [$tries] [$($($generics)*)?] [] [$($argument: $type),*] [$($argument),*] [$answer] $body);
-        twins!($($rest)*);
+        both_forms!($($rest)*);
     };
     (
         $(#[$both:meta])* $panics:ident $(, $must_use:ident)?;
@@ -63,15 +63,15 @@ macro_rules! twins {
             -> Result<$answer:ty, Error> $body:tt
         $($rest:tt)*
     ) => {
-        twins!(@method [$(#[$both])*] [$(#[$first])*] [$visibility] [$(#[$must_use])?] $panics $tries
+        both_forms!(@method [$(#[$both])*] [$(#[$first])*] [$visibility] [$(#[$must_use])?] $panics $tries
             [$this] $this [] [$($arguments)*] [$answer] $body);
-        twins!($($rest)*);
+        both_forms!($($rest)*);
     };
     (
         @method $both:tt $first:tt $visibility:tt $must_use:tt $panics:ident $tries:ident
         [$($receiver:tt)*] $this:ident $generics:tt [$(, $argument:ident: $type:ty)* $(,)?] $answer:tt $body:tt
     ) => {
-        twins!(@forms $both $first $visibility $must_use $panics $tries "Self::" [$this.$tries]
+        both_forms!(@forms $both $first $visibility $must_use $panics $tries "Self::" [$this.$tries]
             $generics [$($receiver)*,] [$($argument: $type),*] [$($argument),*] $answer $body);
     };
     (
@@ -99,4 +99,4 @@ macro_rules! twins {
     };
 }
 
-pub(crate) use twins;
+pub(crate) use both_forms;
