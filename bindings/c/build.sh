@@ -12,7 +12,7 @@
 set -eu
 top=$(cd "$(dirname "$0")/../.." && pwd)
 here=$top/bindings/c
-archive=$top/crates/i_shape_c/out/libi_shape_c.a
+archive=$top/crates/i_shape_c_calls/out/libi_shape_c_calls.a
 version=$("$top/scripts/version.sh")
 soname=libi_shape.so.$("$top/scripts/version.sh" --soname)
 only_asks='' target='' cpu='' backend=''
@@ -38,7 +38,7 @@ kind=$target${cpu:+-$cpu}${backend:+-$backend}
 kind=${kind#-}
 out=$here/out${kind:+/$kind}
 # The archive of the default stays where rt writes it. Others are moved away from there.
-proved=${kind:+$out/libi_shape_c.a}
+proved=${kind:+$out/libi_shape_c_calls.a}
 proved=${proved:-$archive}
 
 # Whether one of the others is newer than the file $1.
@@ -72,7 +72,7 @@ is_built() {
 prove_all() {
     has_room 4000
     touch "$out/build.started"
-    for library in i_shape_core i_shape_contacts i_shape_source i_shape i_shape_c; do
+    for library in i_shape_core i_shape_contacts i_shape_source i_shape i_shape_c i_shape_c_calls; do
         prove "$library" lib --jobs "$jobs"
     done
     touch -r "$out/build.started" "$archive"
@@ -92,7 +92,7 @@ prove_other() {
     cp -p "$archive" "$out/default.part"
     mv "$out/default.part" "$out/default.a"
     trap 'mv "$out/default.a" "$archive"' EXIT
-    prove i_shape_c lib --jobs "$jobs" ${target:+--target "$target-unknown-linux-gnu"} ${cpu:+--cpu "$cpu"} ${backend:+--backend "$backend"}
+    prove i_shape_c_calls lib --jobs "$jobs" ${target:+--target "$target-unknown-linux-gnu"} ${cpu:+--cpu "$cpu"} ${backend:+--backend "$backend"}
     touch -r "$out/build.started" "$archive"
     mv "$archive" "$proved"
     mv "$out/default.a" "$archive"
@@ -115,7 +115,7 @@ link_shared() {
     rm -f "$out"/libi_shape.so*
     "${linker[@]}" -shared -Wl,-soname,"$soname" -Wl,-z,relro,-z,now,--build-id=sha1,-s -Wl,--version-script,"$out/names" \
         -o "$out/libi_shape.so.$version" "$out"/objects/*.o
-    chmod 644 "$out/libi_shape.so.$version"
+    chmod 755 "$out/libi_shape.so.$version"
     link_names
 }
 
@@ -140,7 +140,7 @@ build_by_cargo() {
     local built
     if ! command -v cargo > /dev/null; then
         echo 'make c: cargo from 1.85 on builds the C library, and the Rattle kit proves it: neither cargo nor rt is on the path. Once it is built, its folder' >&2
-        echo 'bindings/c/out serves without them: set I_SHAPE_C_DIR to a copy of it for `make wheel` and `make postgres`.' >&2
+        echo 'bindings/c/out serves without them: set I_SHAPE_C_DIR to a copy of it, or to lib of a release, for `make wheel`, `make postgres` and `make sqlite`.' >&2
         exit 1
     fi
     echo 'make c: there is no rt, which proves the C library; cargo builds it, of the same source without its contracts' >&2
@@ -148,7 +148,9 @@ build_by_cargo() {
     built=$(bash "$top/scripts/by_cargo.sh" i_shape_c_library)
     rm -f "$out"/libi_shape.so*
     cp "$built/libi_shape.a" "$out"
-    install -m 644 "$built/libi_shape.so" "$out/libi_shape.so.$version"
+    # Rust's own objects in it also hold LLVM's code, which no linker takes
+    ! command -v objcopy > /dev/null || objcopy -D --remove-section=.llvmbc --remove-section=.llvmcmd "$out/libi_shape.a"
+    install -m 755 "$built/libi_shape.so" "$out/libi_shape.so.$version"
     link_names
     touch -r "$out/build.started" "$made"
     configure

@@ -3,6 +3,7 @@ enum { MOST = 8, CLEANERS = 4 };
 
 static const char *const cleaner_names[CLEANERS] = {"simplify", "despike", "canonical", "canonical_unoriented"};
 static const char *const form_names[2] = {"canonical_polygons", "canonical_unoriented_polygons"};
+static const char *const feature_names[2] = {"canonical_features", "canonical_unoriented_features"};
 
 /* Whether the cleaner gives a canonical form. */
 static inline int is_form(int cleaner) {

@@ -190,6 +190,7 @@ public:
         test_kinds_of_arrays();
         test_shapes();
         test_forms();
+        test_features();
         test_compact();
         test_chunks();
         test_area();
@@ -382,6 +383,24 @@ private:
         names(i_shape::Array::shapes, 1, [&] { i_shape::canonical_polygons(all.points, all.contours, std::vector<std::uint16_t>{0, 6}); });
     }
 
+    /* Four polygons, of which one collapses, in two features: the two of the first change places. */
+    void test_features() const {
+        const Contour square = {point(10, 0), point(10, 10), point(0, 10), point(0, 0)}, line = {point(1, 1), point(2, 2), point(3, 3)};
+        const Contour triangle = {point(0, -4), point(4, 0), point(-4, 0)};
+        const i_shape::Shapes<Point> all = i_shape::flat(std::vector<std::vector<Contour>>{{square}, {triangle}, {square}, {line}});
+        const std::vector<std::uint16_t> features = {0, 2, 4};
+        const auto forms = i_shape::nested(i_shape::canonical_features(all.points, all.contours, all.shapes, features));
+        const auto unoriented = i_shape::nested(i_shape::canonical_unoriented_features(all.points, all.contours, all.shapes, features));
+        check(forms.size() == 4 && unoriented.size() == 4, "canonical_features", "how many polygons");
+        check(are_equal(forms[0][0], {point(-4, 0), point(0, -4), point(4, 0)}) && are_equal(unoriented[0][0], forms[0][0]), "canonical_features", "the lesser polygon");
+        check(are_equal(forms[1][0], {point(0, 0), point(10, 0), point(10, 10), point(0, 10)}), "canonical_features", "the greater polygon");
+        check(are_equal(unoriented[1][0], {point(0, 0), point(0, 10), point(10, 10), point(10, 0)}), "canonical_unoriented_features", "the greater polygon");
+        check(forms[2].empty() && unoriented[2].empty(), "canonical_features", "a polygon that collapses");
+        check(are_equal(forms[3][0], forms[1][0]) && are_equal(unoriented[3][0], unoriented[1][0]), "canonical_features", "the other feature");
+        names(i_shape::Array::features, 1, [&] { i_shape::canonical_features(all.points, all.contours, all.shapes, std::vector<std::size_t>{0, 5}); });
+        names(i_shape::Array::shapes, 1, [&] { i_shape::canonical_features(all.points, all.contours, std::vector<std::size_t>{0, 5}, features); });
+    }
+
     /* The polygons of test_shapes, whose contours are cleaned before. */
     void test_compact() const {
         const std::vector<std::size_t> contours = {0, 4, 7, 7, 10, 10, 13, 16}, none;
@@ -501,6 +520,22 @@ private:
         const std::vector<ContactKind> kinds = {ContactKind::crossing, ContactKind::overlap, ContactKind::touch, ContactKind::none};
         check(i_shape::kinds_of_contacts(pairs) == kinds, "kinds_of_contacts", "each kind");
         check(i_shape::kinds_of_contacts(Contour()).empty(), "kinds_of_contacts", "no pair");
+        /* behind a point that isn't read, the same and a triangle whose closing edge overlaps an edge of it; an empty contour lies between them */
+        const Contour rings = {point(least_unsafe, 0), point(0, 0), point(4, 4), point(4, 0), point(0, 4), point(1, 1), point(6, 0), point(2, 2)};
+        const std::array<std::uint32_t, 4> offsets = {1, 5, 5, 8};
+        const std::vector<i_shape::Contact> pairs_of_rings = {{1, 3}, {1, 7}, {4, 2}, {4, 5}, {7, 5}};
+        const std::vector<ContactKind> kinds_of_rings = {ContactKind::crossing, ContactKind::overlap, ContactKind::none, ContactKind::none, ContactKind::touch};
+        check(i_shape::kinds_of_contacts(rings, offsets, pairs_of_rings) == kinds_of_rings, "kinds_of_contacts", "edges of contours");
+        check(i_shape::kinds_of_contacts(bow_tie, i_shape::contacts(bow_tie)) == std::vector{ContactKind::crossing}, "kinds_of_contacts", "what contacts returns");
+        for (const std::size_t place : std::array<std::size_t, 2>{0, 8}) {
+            bool is_thrown = false;
+            try {
+                i_shape::kinds_of_contacts(rings, offsets, std::array<i_shape::Contact, 1>{{{1, place}}});
+            } catch (const std::out_of_range &) {
+                is_thrown = true;
+            }
+            check(is_thrown, "kinds_of_contacts", "a place in no contour");
+        }
     }
 
     /* A polygon of each kind: a bow tie with a line of two points for a hole, a hole that touches the outer contour, one outside it and one in another; and an
@@ -538,6 +573,9 @@ private:
         throws(Code::bad_offsets, "contacts_of_rings", "no offset", [&] { i_shape::contacts_of_rings(square(), none); });
         throws(Code::unsafe, "kinds_of_contacts", "a point that isn't safe", [&] { i_shape::kinds_of_contacts(unsafe); });
         throws(Code::bad_offsets, "kinds_of_contacts", "a point too few", [&] { i_shape::kinds_of_contacts(Contour(3, point(0, 0))); });
+        const std::vector<i_shape::Contact> pair = {{0, 2}};
+        throws(Code::unsafe, "kinds_of_contacts", "an end that isn't safe", [&] { i_shape::kinds_of_contacts(unsafe, pair); });
+        throws(Code::bad_offsets, "kinds_of_contacts", "no offset", [&] { i_shape::kinds_of_contacts(square(), none, pair); });
         throws(Code::unsafe, "are_simple_polygons", "a point that isn't safe", [&] { i_shape::are_simple_polygons(unsafe, whole); });
         throws(Code::bad_offsets, "are_simple_polygons", "no offset", [&] { i_shape::are_simple_polygons(square(), none); });
         throws(Code::unsafe, "validity", "a point that isn't safe", [&] { i_shape::validity(unsafe, whole, one); });

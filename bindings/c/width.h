@@ -21,6 +21,10 @@ typedef ptrdiff_t (*AT(form_each))(const POINT *, size_t, const size_t *, size_t
 
 static AT(form_each) const AT(forms)[] = {CALL(canonical_polygons), CALL(canonical_unoriented_polygons)};
 
+typedef ptrdiff_t (*AT(form_features))(const POINT *, size_t, const size_t *, size_t, const size_t *, size_t, const size_t *, size_t, POINT *, size_t, size_t *, size_t, size_t *, size_t);
+
+static AT(form_features) const AT(features)[] = {CALL(canonical_features), CALL(canonical_unoriented_features)};
+
 typedef int32_t (*AT(test_many))(const POINT *, size_t, const size_t *, size_t, uint8_t *, size_t);
 
 static AT(test_many) const AT(tests)[] = {CALL(is_simple_contours), CALL(has_no_spikes_contours), CALL(is_convex_contours), CALL(are_simple_polygons),
@@ -210,6 +214,76 @@ static void AT(test_forms)(void) {
         const size_t unsorted[8] = {0, 4, 7, 7, 10, 10, 13, 16};
         check(AT(forms)[k](given, 24, contours, 8, none, 1, out, 24, out_contours, 8) == 16 && memcmp(out_contours, unsorted, sizeof unsorted) == 0
                   && out[4].x == 6 && out[7].x == 2, W, form_names[k], "no polygon");
+    }
+}
+
+/* The polygons of test_shapes, in features of two, in one, and some of them in none: one that collapses has no contour. */
+static void AT(test_features)(void) {
+    const POINT given[24] = {{10, 0}, {10, 10}, {0, 10}, {0, 0}, {5, 0}, {8, 6}, {6, 6}, {6, 8}, {7, 7}, {1, 1}, {2, 2}, {3, 3},
+                             {2, 4}, {4, 2}, {2, 2}, {1, 1}, {2, 2}, {3, 3}, {2, 4}, {4, 2}, {2, 2}, {0, -4}, {4, 0}, {-4, 0}};
+    const size_t contours[8] = {0, 5, 9, 12, 15, 18, 21, 24}, shapes[5] = {0, 4, 6, 6, 7};
+    const size_t halves[3] = {0, 2, 4}, whole[2] = {0, 4}, last[2] = {3, 4};
+    const size_t halves_contours[5] = {0, 4, 7, 10, 13}, halves_shapes[5] = {0, 0, 3, 3, 4};
+    const size_t whole_contours[5] = {0, 3, 7, 10, 13}, whole_shapes[5] = {0, 0, 0, 1, 4};
+    const size_t last_shapes[5] = {0, 3, 3, 3, 4};
+    const int left[2][13][2] = {
+        {{0, 0}, {10, 0}, {10, 10}, {0, 10}, {2, 2}, {2, 4}, {4, 2}, {6, 6}, {6, 8}, {8, 6}, {-4, 0}, {0, -4}, {4, 0}},
+        {{0, 0}, {0, 10}, {10, 10}, {10, 0}, {2, 2}, {2, 4}, {4, 2}, {6, 6}, {6, 8}, {8, 6}, {-4, 0}, {0, -4}, {4, 0}}};
+    for (int k = 0; k < 2; k++) {
+        POINT out[25];
+        size_t out_contours[9], out_shapes[6];
+        const char *name = feature_names[k];
+        fill(out, sizeof out);
+        fill(out_contours, sizeof out_contours);
+        fill(out_shapes, sizeof out_shapes);
+#define FORM(FEATURES, FEATURE_OFFSETS) \
+    AT(features)[k](given, 24, contours, 8, shapes, 5, FEATURES, FEATURE_OFFSETS, out, 25, out_contours, 9, out_shapes, 6)
+        check(FORM(halves, 3) == 4, W, name, "how many polygons");
+        check(AT(is_answer)(out, left[k], 13, 25), W, name, "points");
+        check(memcmp(out_contours, halves_contours, sizeof halves_contours) == 0 && is_filled(out_contours + 5, 4 * sizeof *out_contours), W, name, "contours");
+        check(memcmp(out_shapes, halves_shapes, sizeof halves_shapes) == 0 && is_filled(out_shapes + 5, sizeof *out_shapes), W, name, "polygons");
+        check(FORM(whole, 2) == 4 && AT(is_answer)(out, left[k] + 10, 3, 3) && AT(is_answer)(out + 3, left[k], 10, 10)
+                  && memcmp(out_contours, whole_contours, sizeof whole_contours) == 0 && memcmp(out_shapes, whole_shapes, sizeof whole_shapes) == 0,
+              W, name, "one feature");
+        check(FORM(last, 2) == 4 && AT(is_answer)(out, left[k], 13, 13) && memcmp(out_contours, halves_contours, sizeof halves_contours) == 0
+                  && memcmp(out_shapes, last_shapes, sizeof last_shapes) == 0, W, name, "polygons that no feature has");
+#undef FORM
+    }
+}
+
+static void AT(test_features_codes)(void) {
+    const size_t contours[3] = {0, 3, 6}, outside[2] = {0, 7}, shapes[3] = {0, 1, 2}, backwards[3] = {0, 2, 1}, beyond[2] = {0, 3}, features[2] = {0, 2}, none[1] = {1}, hollow[3] = {1, 1, 1};
+    for (int k = 0; k < 2; k++) {
+        POINT given[6] = {{0, 0}, {2, 0}, {0, 4}, {0, 0}, {4, 0}, {0, 4}}, out[6];
+        size_t out_contours[3], out_shapes[3];
+        const char *name = feature_names[k];
+        fill(out, sizeof out);
+        fill(out_contours, sizeof out_contours);
+        fill(out_shapes, sizeof out_shapes);
+#define FORM(CONTOURS, CONTOUR_OFFSETS, SHAPES, SHAPE_OFFSETS, FEATURES, FEATURE_OFFSETS, ROOM, CONTOUR_ROOM, SHAPE_ROOM) \
+    AT(features)[k](given, 6, CONTOURS, CONTOUR_OFFSETS, SHAPES, SHAPE_OFFSETS, FEATURES, FEATURE_OFFSETS, out, ROOM, out_contours, CONTOUR_ROOM, out_shapes, SHAPE_ROOM)
+#define IS_UNTOUCHED (is_filled(out, sizeof out) && is_filled(out_contours, sizeof out_contours) && is_filled(out_shapes, sizeof out_shapes))
+        check(FORM(contours, 0, shapes, 3, features, 2, 6, 3, 3) == I_SHAPE_BAD_OFFSETS, W, name, "no offset of contours");
+        check(FORM(contours, 3, shapes, 0, features, 2, 6, 3, 3) == I_SHAPE_BAD_OFFSETS, W, name, "no offset of polygons");
+        check(FORM(contours, 3, shapes, 3, features, 0, 6, 3, 3) == I_SHAPE_BAD_OFFSETS, W, name, "no offset of features");
+        check(FORM(outside, 2, shapes, 3, features, 2, 6, 3, 3) == I_SHAPE_BAD_OFFSETS, W, name, "a contour out of the points");
+        check(FORM(contours, 3, beyond, 2, features, 2, 6, 3, 3) == I_SHAPE_BAD_OFFSETS, W, name, "a polygon out of the contours");
+        check(FORM(contours, 3, shapes, 3, beyond, 2, 6, 3, 3) == I_SHAPE_BAD_OFFSETS, W, name, "a feature out of the polygons");
+        check(FORM(contours, 3, shapes, 3, backwards, 3, 6, 3, 3) == I_SHAPE_BAD_OFFSETS, W, name, "features that run backwards");
+        check(FORM(contours, 3, shapes, 3, features, 2, 5, 3, 3) == I_SHAPE_NO_ROOM, W, name, "room for five of six points");
+        check(FORM(contours, 3, shapes, 3, features, 2, 6, 2, 3) == I_SHAPE_NO_ROOM, W, name, "room for two of three offsets of contours");
+        check(FORM(contours, 3, shapes, 3, features, 2, 6, 3, 2) == I_SHAPE_NO_ROOM, W, name, "room for two of three offsets of polygons");
+        given[5].y = LEAST_UNSAFE;
+        check(FORM(contours, 3, shapes, 3, features, 2, 6, 3, 3) == I_SHAPE_UNSAFE, W, name, "features with a point that isn't safe");
+        check(IS_UNTOUCHED, W, name, "codes leave the arrays of features as they were");
+        given[5].y = 4;
+        /* The points, and the offsets of contours and polygons, of what is left, two lists of the contours and one of the polygons. */
+        WITH_EACH_GROWTH_FAILED(FORM(contours, 3, shapes, 3, features, 2, 6, 3, 3), IS_UNTOUCHED, growths == 6, W, name);
+        /* Of no polygon, and of polygons without a contour, no memory is taken. */
+        WITH_EACH_GROWTH_FAILED(FORM(contours, 3, none, 1, features, 1, 6, 3, 3), 1, growths == 0, W, name);
+        WITH_EACH_GROWTH_FAILED(FORM(contours, 3, hollow, 3, features, 2, 6, 3, 3), 1, growths == 0, W, name);
+#undef IS_UNTOUCHED
+#undef FORM
     }
 }
 
@@ -879,6 +953,8 @@ static void AT(test_width)(void) {
     AT(test_shapes)();
     AT(test_shapes_codes)();
     AT(test_forms)();
+    AT(test_features)();
+    AT(test_features_codes)();
     AT(test_forms_codes)();
     AT(test_named)();
     AT(test_tests)();

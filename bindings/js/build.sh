@@ -27,7 +27,7 @@ if is_built; then
 fi
 mkdir -p "$here/out"
 touch "$here/out/build.started"
-bash "$here/cargo.sh" rustc --release -p i_shape_c_library --lib --crate-type cdylib --config profile.release.strip=true < /dev/null
+bash "$here/cargo.sh" rustc --release -p i_shape_c_library --lib --crate-type cdylib --config profile.release.strip=true -- --cfg for_javascript < /dev/null
 install -m 644 "$top/rust/target/wasm/wasm32-unknown-unknown/release/i_shape.wasm" "$module"
 # sources that were changed meanwhile are newer than the module
 touch -r "$here/out/build.started" "$module"

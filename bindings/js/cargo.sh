@@ -37,4 +37,4 @@ if ! has_linker "$rustc"; then
 fi
 [ "${1-}" != --has-rust ] || exit 0
 cd "$top/rust"
-RUSTC=$rustc exec cargo "$@" ${words[@]+"${words[@]}"} --target $target --target-dir target/wasm --offline --locked --quiet
+RUSTC=$rustc exec cargo "$1" ${words[@]+"${words[@]}"} --target $target --target-dir target/wasm --offline --locked --quiet "${@:2}"

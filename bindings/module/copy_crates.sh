@@ -20,7 +20,7 @@ awk -F: -v crate="$crate" '
     }
     END { add(crate) }' "$top/crates.txt" > "$folder/crates.txt"
 # What is kept of the C library changes while bindings/c/build.sh proves it for another machine.
-if [ "$crate" = i_shape_c ]; then
+if [ "$crate" = i_shape_c_calls ]; then
     flock "$top/bindings/c/out/build.lock" cp -a "$top/crates/$crate" "$folder/crates"
 else
     cp -a "$top/crates/$crate" "$folder/crates"

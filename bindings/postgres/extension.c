@@ -31,7 +31,8 @@ void _PG_init(void) {
 #endif
 }
 
-/* May end the call, and so the memory contexts free what it holds. */
+/* May end the call, and so the memory contexts free what it holds. It runs between calls of the library, which allocates by malloc: no error of the server
+ * jumps over one. */
 static void check_for_interrupts(void *unused) {
     CHECK_FOR_INTERRUPTS();
 }
@@ -232,7 +233,7 @@ CALL(pg_i_shape_validity_reason) {
     PG_RETURN_TEXT_P(cstring_to_text(text));
 }
 
-/* The first room is enough where each edge is in contact with two others, so that all pairs of edges are seldom tried twice. */
+/* The first room is enough where each edge is in contact with two others, so that contacts are seldom listed twice. */
 static i_shape_contact *contacts_of(const Geometry *geometry, size_t *count) {
     size_t room = geometry->counts.points;
     size_t *offsets = MemoryContextAllocHuge(CurrentMemoryContext, (geometry->counts.rings + 1) * sizeof *offsets);

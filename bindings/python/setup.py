@@ -2,7 +2,8 @@
 certain Python, since the library knows nothing of Python.
 
 In a source distribution cargo builds the library, of the folder rust, or it
-is taken from the folder I_SHAPE_C_DIR. Elsewhere it lies in the package
+is taken from the folder I_SHAPE_C_DIR. It is called here, since a build tool
+for Rust would have to be fetched. Elsewhere it lies in the package
 already: the wheel is then of the machine that it was built for, and of the
 system that WHEEL_SYSTEM names. The version is that of the header.
 """

@@ -67,7 +67,7 @@ static bool is_spatialite(const Blob *blob) {
     return blob->size >= SL_LEAST && bytes[0] == 0 && bytes[1] == 1 && bytes[SL_HEAD] == SL_MARK && bytes[blob->size - 1] == SL_END;
 }
 
-/* Sets the byte before each part of a MultiPolygon. It is false where there is another one than before, or the parts don't fit. */
+/* Sets the byte before each part of a MultiPolygon to `after`. Returns false where one isn't `before`, or where the parts don't fit. */
 static bool mark_parts(unsigned char *wkb, size_t size, unsigned char before, unsigned char after) {
     const size_t head = 9, point = 16; /* the byte order, the type and a count */
     size_t at = head;

@@ -259,7 +259,7 @@ static void tell_reason(Call *call, int count, sqlite3_value **values) {
     sqlite3_result_text(call->context, text, -1, SQLITE_TRANSIENT);
 }
 
-/* The first room is enough where each edge is in contact with two others, so that all pairs of edges are seldom tried twice. */
+/* The first room is enough where each edge is in contact with two others, so that contacts are seldom listed twice. */
 static const i_shape_contact *contacts_of(Call *call, const Geometry *geometry, size_t *count) {
     size_t room = geometry->counts.points;
     size_t *offsets = take(call, (geometry->counts.rings + 1) * sizeof *offsets);

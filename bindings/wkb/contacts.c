@@ -8,7 +8,7 @@ typedef unsigned __int128 Span;
 
 /* ---- which edges are in contact ---- */
 
-/* Where the rings of a polygon begin among its points, of which it returns the number. */
+/* Writes where the rings of a polygon begin among its points. Returns the number of points. */
 static size_t put_offsets(const Polygon *polygon, size_t *offsets) {
     size_t count = 0;
     for (size_t ring = 0; ring < polygon->count; ring++) {
@@ -23,7 +23,7 @@ static size_t put_offsets(const Polygon *polygon, size_t *offsets) {
 static size_t contacts_of_polygon(const Polygon *polygon, size_t *offsets, i_shape_contact *out, size_t room) {
     const i_shape_point_i64 *points = polygon->rings->points;
     size_t count = put_offsets(polygon, offsets), first[2];
-    /* Where there is none, this takes less time than to try all pairs. */
+    /* Where there is none, this takes less time than to list them. */
     if (i_shape_first_contact_of_rings_i64(points, count, offsets, polygon->count + 1, first, 2) == 0) return 0;
     return (size_t)i_shape_contacts_of_rings_i64(points, count, offsets, polygon->count + 1, out, room);
 }

@@ -60,7 +60,7 @@ typedef enum {
     OTHER_TYPE,    /* of the given type */
     HAS_Z_OR_M,
     NOT_WKB,       /* what says why */
-    MIXED_SRIDS,   /* of a polygon beside that of its MultiPolygon */
+    MIXED_SRIDS,   /* a polygon has another one than its MultiPolygon */
     OUT_OF_RANGE   /* the coordinate value, x or y, of a point, at its place from 1 on; what says why */
 } FaultKind;
 

@@ -66,8 +66,8 @@ static size_t make_offsets(size_t *offsets, size_t end) {
 static size_t room(size_t count) { return one_in(20) && count > 0 ? below(count) : count + below(3); }
 
 /* What a call is given and writes, besides points. */
-static size_t count, offset_count, shape_count, about_count;
-static size_t offsets[MOST_OFFSETS], shapes[MOST_OFFSETS];
+static size_t count, offset_count, shape_count, feature_count, about_count;
+static size_t offsets[MOST_OFFSETS], shapes[MOST_OFFSETS], features[MOST_OFFSETS];
 static size_t out_offsets[3][MOST_OFFSETS + 4];
 static ptrdiff_t numbers[MOST_ABOUT + 4];
 static uint8_t bytes[MOST_ABOUT + 4];
@@ -179,6 +179,9 @@ static void tell_all(uint64_t seed, size_t rounds) {
     hash_kinds_i16(rounds);
     hash_kinds_i32(rounds);
     hash_kinds_i64(rounds);
+    hash_features_i16(rounds);
+    hash_features_i32(rounds);
+    hash_features_i64(rounds);
 }
 
 int main(int argc, char **argv) {

@@ -166,6 +166,19 @@ static void AT(hash_forms)(size_t rounds) {
     HASH(canonical_unoriented_polygons, FORMED);
 }
 
+#define FEATURED (BATCH, shapes, shape_count, features, feature_count, AT(out), room_of.points, out_offsets[0], room_of.offsets, out_offsets[1], room_of.shapes)
+
+/* The same, and offsets of polygons, which divide these into features. */
+static void AT(make_features)(void) {
+    AT(make)();
+    feature_count = make_offsets(features, shape_count ? shape_count - 1 : 0);
+}
+
+static void AT(hash_features)(size_t rounds) {
+    HASH_MADE(make_features, canonical_features, FEATURED);
+    HASH_MADE(make_features, canonical_unoriented_features, FEATURED);
+}
+
 /* The same points, as many as there are bytes to write of, and in nine of ten runs four for each pair of edges. */
 static void AT(make_pairs)(void) {
     AT(make)();
@@ -178,6 +191,7 @@ static void AT(hash_kinds)(size_t rounds) {
 }
 
 #undef FORMED
+#undef FEATURED
 #undef JOINED
 #undef JOIN
 #undef AT

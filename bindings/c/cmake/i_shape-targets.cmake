@@ -1,6 +1,6 @@
 # The targets i_shape::static and i_shape::shared over the folders i_shape_LIBRARY_DIR and i_shape_INCLUDE_DIR, and i_shape::i_shape, which
-# is the shared library where BUILD_SHARED_LIBS is on, and else the static one. A shared library that links the static one doesn't export its calls, so that
-# another version in the same program isn't taken in place of it.
+# is the shared library where BUILD_SHARED_LIBS is on or no static one is installed, and else the static one. A shared library that links the static one doesn't
+# export its calls, so that another version in the same program isn't taken in place of it.
 if(TARGET i_shape::i_shape)
   return()
 endif()
@@ -31,7 +31,7 @@ elseif(i_shape_SHARED_FILE STREQUAL "libi_shape.so")
 endif()
 
 add_library(i_shape::i_shape INTERFACE IMPORTED GLOBAL)
-if(BUILD_SHARED_LIBS)
+if(BUILD_SHARED_LIBS OR (i_shape_IS_INSTALLED AND NOT EXISTS "${i_shape_LIBRARY_DIR}/${i_shape_STATIC_FILE}"))
   target_link_libraries(i_shape::i_shape INTERFACE i_shape::shared)
 else()
   target_link_libraries(i_shape::i_shape INTERFACE i_shape::static)

@@ -12,7 +12,7 @@ mingw=x86_64-w64-mingw32
 
 is_built() {
     [ -e "$out/i_shape.dll" ] && bash "$top/bindings/c/build.sh" --is-built &&
-        [ -z "$(find "$here" "$module" "$top"/bindings/c/allocator.[ch] "$top/crates/i_shape_c/out/libi_shape_c.a" -type f -newer "$out/i_shape.dll" -print -quit)" ]
+        [ -z "$(find "$here" "$module" "$top"/bindings/c/allocator.[ch] "$top/crates/i_shape_c_calls/out/libi_shape_c_calls.a" -type f -newer "$out/i_shape.dll" -print -quit)" ]
 }
 
 # The functions that the object file $1 calls are known.
@@ -37,8 +37,8 @@ bash "$top/bindings/c/build.sh"
 work=$(mktemp -d)
 trap 'rm -rf "$work"' EXIT
 
-sh "$module/copy_crates.sh" "$top" "$work" i_shape_c
-sh "$module/lower.sh" "$work/crates/i_shape_c" "$work/linux.ll" --cpu x86-64
+sh "$module/copy_crates.sh" "$top" "$work" i_shape_c_calls
+sh "$module/lower.sh" "$work/crates/i_shape_c_calls" "$work/linux.ll" --cpu x86-64
 python3 "$here/retarget.py" "$work/linux.ll" "$work/windows.ll"
 sh "$here/compile.sh" -O3 -x ir "$work/windows.ll" -o "$work/i_shape.o"
 if ! has_known_calls "$work/i_shape.o"; then

@@ -197,3 +197,39 @@ export function cleanedFeatures(shapes, object, options) {
     const { bbox, ...others } = object;
     return { ...others, features: object.features.map(cleaned) };
 }
+
+/** The features of an object, their polygons on a grid, and where those of each feature begin. */
+function griddedFeatures(call, object, step) {
+    const parts = stepsToOne(call, step);
+    const features = featuresOf(object);
+    return { features, ...onEitherGrid(features, object?.type === "FeatureCollection", step, parts), places: offsetsOf(features) };
+}
+
+export function keysOfFeatures(shapes, object, options) {
+    const { step, oriented = false } = checkedOptions("featureKeys", options, ["step", "oriented"]);
+    const { features, points, ringOffsets, polygonOffsets, places } = griddedFeatures("featureKeys", object, step);
+    const keys = shapes.canonicalKeys(points, ringOffsets, polygonOffsets, { oriented });
+    // Polygons without rings don't count, nor those that collapse.
+    return features.map((polygons, k) => keys.slice(places[k], places[k + 1]).filter((key, place) => key && polygons[place].length).sort().join("|"));
+}
+
+/** The fault of a polygon of a feature, with rings counted within the polygon and edges within their ring. `starts` are where the polygon's rings begin. */
+function placedFault({ kind, ring, other, first, second }, polygon, firstRing, starts) {
+    if (kind === "contact") {
+        const rings = [first, second].map((point) => starts.findLastIndex((start) => start <= point));
+        return { kind, polygon, ring: rings[0], other: rings[1], edges: [first - starts[rings[0]], second - starts[rings[1]]] };
+    }
+    return { kind, polygon, ring: ring - firstRing, ...(kind === "holeWithin" && { other: other - firstRing }) };
+}
+
+export function faultsOfFeatures(shapes, object, options) {
+    const { step } = checkedOptions("explainValidity", options, ["step"]);
+    const { features, points, ringOffsets, polygonOffsets, places } = griddedFeatures("explainValidity", object, step);
+    const faults = shapes.polygonValidity(points, ringOffsets, polygonOffsets);
+    return features.map((_, k) => {
+        const polygon = faults.slice(places[k], places[k + 1]).findIndex(({ kind }) => kind !== "valid");
+        if (polygon < 0) return { kind: "valid" };
+        const place = places[k] + polygon;
+        return placedFault(faults[place], polygon, polygonOffsets[place], ringOffsets.subarray(polygonOffsets[place], polygonOffsets[place + 1]));
+    });
+}

@@ -154,6 +154,17 @@ export type Validity =
     | { kind: "holeWithin"; ring: number; other: number };
 
 /**
+ * The first fault of a feature, or `"valid"`: that of the first of its polygons that has one. `polygon` counts within the feature, `ring` and `other` within the
+ * polygon. Of a contact, `ring` and `other` have the two `edges`, each by the index in its ring of the position from which it leads.
+ */
+export type FeatureValidity =
+    | { kind: "valid" }
+    | { kind: "tooFewPoints" | "holeOutside"; polygon: number; ring: number }
+    | { kind: "contact"; polygon: number; ring: number; other: number; edges: [number, number] }
+    /** The hole `ring` is within the hole `other`. */
+    | { kind: "holeWithin"; polygon: number; ring: number; other: number };
+
+/**
  * The calls. Each serves by itself too, as in `const { simplify } = await load()`. A contour is read as a cycle: the last point isn't the first one again. No
  * call changes what it is given, and each array of an answer is a new one. A call throws a `TypeError` where an array or a number is of another type or
  * a number isn't whole, a `RangeError` where points have an x without a y or there is no such fill rule, an `OutOfMemoryError` where an allocation in the
@@ -214,8 +225,8 @@ export interface IShape {
     firstContactOfRings(points: Points, offsets: Offsets): Contact | undefined;
 
     /**
-     * All pairs of edges that are in contact, by `first`, and those of one `first` by `second`. It tries all pairs of edges, and each may be in contact: where the
-     * engine has no memory for so many objects, it ends the program.
+     * All pairs of edges that are in contact, by `first`, and those of one `first` by `second`. Each pair of edges may be in contact: where the engine has no
+     * memory for so many objects, it ends the program.
      * @throws {UnsafePointError}
      * @throws {OutOfMemoryError}
      */
@@ -352,6 +363,18 @@ export interface IShape {
      * @throws {RangeError} there is no such call
      */
     cleanFeatures<T extends object>(object: T, options: CleanOptions): T;
+
+    /**
+     * A key of each feature of a `FeatureCollection`, rounded onto a grid, or of another object alone: two are equal exactly where the features have the same polygons,
+     * in whichever order, by the keys that `canonicalKeys` returns of these. It is empty where nothing is left. Other versions may make other keys.
+     * @throws {GeoJsonError} it isn't polygons
+     * @throws {UnsafePointError} a coordinate has too many steps for the safe range of 64 bits
+     * @throws {TypeError} there is no step, or an option of another name
+     */
+    featureKeys(object: object, options: { step: number; oriented?: boolean }): string[];
+
+    /** Of each such feature what `polygonValidity` finds first. It throws as `featureKeys` does. */
+    explainValidity(object: object, options: { step: number }): FeatureValidity[];
 
     /** The sum of what `areaTwo` returns of the rings of each polygon, which wraps as it does: a hole counts against an outer ring that turns the other way. */
     areaTwoPolygons(points: Points, ringOffsets: Offsets, polygonOffsets: Offsets): bigint[];

@@ -6,7 +6,7 @@ import { asOffsets, byteLengthOf, checkCoordinate, isInSafeRange, kindOf, length
 import { contactsOf, edgesOf, kindsOf } from "./contacts.js";
 import { CollapsedError, GeoJsonError, IShapeError, OffsetsError, OutOfMemoryError, UnsafePointError } from "./errors.js";
 import { faultsOf } from "./faults.js";
-import { cleanedFeatures, fromGeoJson, toGeoJson } from "./geojson.js";
+import { cleanedFeatures, faultsOfFeatures, fromGeoJson, keysOfFeatures, toGeoJson } from "./geojson.js";
 import { compiled } from "./loading.js";
 import { MOST, borrow } from "./memory.js";
 import { checkedOptions } from "./options.js";
@@ -342,6 +342,14 @@ class IShape {
 
     cleanFeatures(object, options = {}) {
         return cleanedFeatures(this, object, options);
+    }
+
+    featureKeys(object, options = {}) {
+        return keysOfFeatures(this, object, options);
+    }
+
+    explainValidity(object, options = {}) {
+        return faultsOfFeatures(this, object, options);
     }
 
     areaTwoPolygons(points, ringOffsets, polygonOffsets) {

@@ -1,6 +1,6 @@
-/** How the module is had from what `load` is given. A fault names the URL, where there is one. */
+/** How `load` makes the module of what it is given. An error names the URL, if there is one. */
 
-// A variable, behind words for bundlers, so that none of them looks for the module: it is for Node.
+// Only Node has this module. A variable and comments for bundlers keep them from looking for it.
 const FILES = "node:fs/promises";
 
 async function readFile(url) {
@@ -8,7 +8,7 @@ async function readFile(url) {
     return files.readFile(url);
 }
 
-/** Whether something is of a class that not each engine has everywhere. */
+/** Returns whether something is of a class that some engines lack. */
 function isOf(name, given) {
     return typeof globalThis[name] === "function" && given instanceof globalThis[name];
 }

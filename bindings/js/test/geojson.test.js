@@ -207,6 +207,51 @@ describe("cleanFeatures", async () => {
     });
 });
 
+describe("features", async () => {
+    const shapes = await load(MODULE);
+    const hole = [[1, 1], [2, 1], [1, 2]];
+    const square = [[0, 0], [8, 0], [8, 8], [0, 8], [0, 0]];
+    const polygons = (...coordinates) => ({ type: "MultiPolygon", coordinates });
+    const collection = (...geometries) => ({ type: "FeatureCollection", features: geometries.map((geometry) => ({ type: "Feature", geometry })) });
+
+    test("keys are equal where the polygons are the same", () => {
+        const turned = [[8, 8], [8, 0], [4, 0], [0, 0], [0, 8.2]];
+        const same = [polygons([square], [hole]), polygons([hole], [turned], [FLAT], [])];
+        const others = [{ type: "Polygon", coordinates: [square, hole] }, polygons([square]), polygons([square], [square]), polygons([square.toReversed()], [hole])];
+        const keys = shapes.featureKeys(collection(...same, ...others, null, polygons([FLAT], [])), { step: 0.5 });
+        assert.equal(keys[0], keys[1]);
+        assert.equal(keys[0], keys[5]);
+        assert.equal(new Set(keys).size, 5);
+        assert.deepEqual(keys.slice(6), ["", ""]);
+        assert.deepEqual(shapes.featureKeys(same[1], { step: 0.5 }), [keys[0]]);
+        assert.notDeepEqual(...[same[0], others[3]].map((object) => shapes.featureKeys(object, { step: 0.5, oriented: true })));
+        const wide = polygons([[[0, 0], [4e9, 0], [4e9, 1]]]);
+        assert.equal(shapes.featureKeys(collection(wide, same[0]), { step: 0.5 })[1], keys[0]);
+    });
+
+    test("faults by feature, polygon and ring", () => {
+        const crossing = [[0, 0], [1, 0], [9, 4], [9, 2], [1, 5]];
+        const faults = shapes.explainValidity(collection(
+            polygons([square, hole]), null, polygons([square], [[[1, 1], [1, 1.2], [1.2, 1]]]), polygons([square, hole], [square, hole, crossing]),
+            polygons([crossing], [FLAT]), { type: "Polygon", coordinates: [square, [[9, 9], [9, 8.5], [10, 9]]] },
+            polygons([], [square, [[1.5, 1.5], [1.5, 2], [2, 1.5]], [[1, 1], [5, 1], [1, 5]]])), { step: 0.5 });
+        assert.deepEqual(faults, [
+            { kind: "valid" }, { kind: "valid" }, { kind: "tooFewPoints", polygon: 1, ring: 0 },
+            { kind: "contact", polygon: 1, ring: 0, other: 2, edges: [0, 0] }, { kind: "contact", polygon: 0, ring: 0, other: 0, edges: [1, 3] },
+            { kind: "holeOutside", polygon: 0, ring: 1 }, { kind: "holeWithin", polygon: 1, ring: 1, other: 2 },
+        ]);
+        assert.deepEqual(shapes.explainValidity({ type: "Polygon", coordinates: [square] }, { step: 1 }), [{ kind: "valid" }]);
+    });
+
+    test("what isn't polygons, or has no step, is an error", () => {
+        for (const call of [shapes.featureKeys, shapes.explainValidity]) {
+            assert.throws(() => call(collection(polygons([square]), { type: "Point", coordinates: [0, 0] }), { step: 1 }), { name: "GeoJsonError", feature: 1 });
+            assert.throws(() => call(collection()), { name: "TypeError", message: /has no step/ });
+            assert.throws(() => call(collection(), { step: 1, call: "simplify" }), { name: "TypeError", message: /has no option call/ });
+        }
+    });
+});
+
 describeWidths((shapes, { points }) => {
     // A square from two starts, once with a straight point; backwards; a line.
     const RINGS = points([0, 0, 4, 0, 4, 4, 0, 4, 4, 4, 0, 4, 0, 0, 2, 0, 4, 0, 0, 4, 4, 4, 4, 0, 0, 0, 1, 1, 2, 2, 3, 3]);

@@ -3,7 +3,7 @@ import {
     CollapsedError, FILL_RULES, GeoJsonError, IShapeError, OffsetsError, UnsafePointError, fromGeoJson, load, toGeoJson,
     type FillRule, type IShape, type Polygons, type Rings,
 } from "../src/i_shape.js";
-import type { Contact, ContactKind, Validity } from "../src/i_shape.js";
+import type { Contact, ContactKind, FeatureValidity, Validity } from "../src/i_shape.js";
 
 class Own extends Int32Array {
     readonly owner = "a class of the caller's";
@@ -44,7 +44,10 @@ async function keys(): Promise<void> {
     console.log(told, places, areSame, areas, coordinates);
     const feature = shapes.cleanFeatures({ type: "Feature", id: 7, geometry: null }, { step: 0.5, call: "despike" });
     const id: number = feature.id;
-    console.log(id);
+    const ofFeatures: string[] = shapes.featureKeys(feature, { step: 0.5, oriented: true });
+    const faults: FeatureValidity[] = shapes.explainValidity(feature, { step: 0.5 });
+    for (const fault of faults) if (fault.kind === "contact") console.log(fault.polygon, fault.edges[1]);
+    console.log(id, ofFeatures);
     // @ts-expect-error: no step
     fromGeoJson({});
     // @ts-expect-error: no step

@@ -5,9 +5,9 @@
 SET client_min_messages = error;
 CREATE EXTENSION IF NOT EXISTS i_shape CASCADE;
 
-\echo the functions: those not IMMUTABLE, STRICT and PARALLEL SAFE, and all
+\echo the functions: those not IMMUTABLE, STRICT and PARALLEL SAFE, or without a comment, and all
 SELECT proname FROM pg_proc
-WHERE proname LIKE 'i\_shape\_%' AND NOT (provolatile = 'i' AND proisstrict AND proparallel = 's');
+WHERE proname LIKE 'i\_shape\_%' AND (NOT (provolatile = 'i' AND proisstrict AND proparallel = 's') OR obj_description(oid, 'pg_proc') IS NULL);
 SELECT proname, prolang <> 13, pronargs, pronargdefaults, prorettype::regtype, procost FROM pg_proc
 WHERE proname LIKE 'i\_shape\_%' ORDER BY proname COLLATE "C";
 

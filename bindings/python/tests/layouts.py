@@ -1,4 +1,4 @@
-"""Run by KLayout: makes a layout of random polygons, and tells of one.
+"""Run by KLayout: makes a layout of random polygons, or reads one.
 
     klayout -b -r layouts.py -rd made=GDS -rd rings=JSON
     klayout -b -r layouts.py -rd told=GDS -rd rings=JSON

@@ -1,6 +1,7 @@
 """Random features, as lists, and the arrays of them."""
 
 import os
+import signal
 import unittest
 
 import numpy as np
@@ -88,3 +89,12 @@ def geojson(*geometries):
 def polygon(*rings):
     return {"type": "Polygon", "coordinates": [
         [list(point) for point in [*ring, *ring[:1]]] for ring in rings]}
+
+
+def heed_interrupts(test):
+    """Let programs that a test starts end by SIGINT.
+
+    A background job of a script ignores it, and so do its children.
+    """
+    test.addCleanup(signal.signal, signal.SIGINT, signal.signal(
+        signal.SIGINT, signal.default_int_handler))

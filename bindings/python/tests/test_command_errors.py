@@ -242,6 +242,23 @@ class Errors(CommandCase):
                 self.assertEqual(self.out.read_text(), "as it was")
         self.assertEqual(statuses, sorted(statuses))
 
+    def test_a_pipe_that_nobody_reads_ends_the_program(self):
+        crossed = samples.polygon([(0, 0), (4, 4), (4, 0), (0, 4)])
+        for count in (1, 500):  # more than a buffer holds
+            self.write(samples.geojson(*count * [crossed]))
+            before = set(self.folder.iterdir())
+            for words in (["check", self.given, "--to", self.out],
+                          ["despike", self.given, "-"],
+                          ["dedup", self.given, self.out, "--report"]):
+                reader, writer = os.pipe()
+                os.close(reader)
+                run = subprocess.run(
+                    [sys.executable, "-m", "i_shape", *words, "--step", "1"],
+                    stdout=writer, stderr=subprocess.PIPE, check=False)
+                os.close(writer)
+                self.assertEqual((run.returncode, run.stderr), (141, b""))
+                self.assertEqual(set(self.folder.iterdir()), before)
+
     def test_a_pipe_is_written_to(self):
         self.write(samples.geojson(samples.polygon(SPIKED)))
         os.mkfifo(self.out)
@@ -306,6 +323,7 @@ class Errors(CommandCase):
                              r"\.i_shape-\w{8}\Z")
 
     def test_signals_leave_nothing_behind(self):
+        samples.heed_interrupts(self)
         self.write(samples.geojson(samples.polygon(SPIKED)))
         self.out.write_text("as it was")
         before = sorted(self.folder.iterdir())

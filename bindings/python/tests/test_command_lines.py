@@ -94,7 +94,7 @@ class Lines(CommandCase):
                          " 0 collapsed\n")
 
     def run_command(self, *words, status=0):
-        """The bytes that it writes to standard output are told too."""
+        """Return standard output, bytes written to it too, and errors."""
         shown = text_io.TextIOWrapper(text_io.BytesIO())
         with mock.patch.object(contextlib, "redirect_stdout",
                                lambda _: mock.patch.object(
@@ -260,8 +260,8 @@ class Others(CommandCase):
         wkt, package = self.folder / "a.wkt", self.folder / "a.gpkg"
         for words, told in (
                 (["simplify", wkt, self.out, "--others", "keep"], "WKT"),
-                (["simplify", package, self.out], "nothing else"),
-                (["simplify", self.given, package], "nothing else"),
+                (["simplify", package, self.out], "or neither"),
+                (["simplify", self.given, package], "or neither"),
                 (["simplify", self.given, self.out, "--layer", "a"],
                  "--layer is for"),
                 (["simplify", self.given, self.out, "--oriented"],

@@ -1,4 +1,4 @@
-"""What the command tells: the report, the progress and the plot."""
+"""What the command reports: the report, the progress and the plot."""
 
 import contextlib
 import importlib.util

@@ -11,8 +11,8 @@ import i_shape
 from i_shape import (_contacts, _contours, _keys, _measures, _polygons,
                      _rings, _windings, io)
 from i_shape.io import (_cleaners, _closing, _conditions, _features,
-                        _geojson, _geoseries, _grid, _locating, _shapely,
-                        _validity, _wkb, _wkt)
+                        _geojson, _geoseries, _grid, _keys_of_features,
+                        _locating, _shapely, _validity, _wkb, _wkt)
 
 TOP = Path(__file__).resolve().parents[3]
 PAGE = TOP / "docs" / "PYTHON.md"
@@ -30,8 +30,8 @@ class Documents(unittest.TestCase):
             self.assertEqual(faults, 0)
             self.assertGreater(count, 10)
         for module in (_cleaners, _closing, _conditions, _features, _geojson,
-                       _geoseries, _grid, _locating, _shapely, _validity,
-                       _wkb, _wkt):
+                       _geoseries, _grid, _keys_of_features, _locating,
+                       _shapely, _validity, _wkb, _wkt):
             faults, count = doctest.testmod(module)
             self.assertEqual(faults, 0)
             self.assertGreater(count, 1)

@@ -174,6 +174,29 @@ class Theorem(ExampleCase):
         self.assertEqual(found["despike changes area or winding numbers"], 1)
 
 
+class ContactTheorem(ExampleCase):
+
+    name = "contact_theorem"
+
+    @samples.takes_long
+    def test_no_ring_contradicts_it(self):
+        lines = self.printed("--random", "200")
+        self.assertEqual(lines[0], "7580 rings")
+        self.assertEqual({line.rpartition(": ")[2] for line in lines[1:]},
+                         {"0"})
+
+    def test_a_wrong_call_is_found(self):
+        ring = ((0, 0), (2, 2), (2, 0), (0, 2))
+        self.assertEqual(set(self.example.faults([ring]).values()), {0})
+        for name, wrong in (
+                ("first_contact", None), ("is_simple_polygon", True),
+                ("contacts", np.empty((0, 2), np.intp)),
+                ("kinds_of_contacts", [i_shape.ContactKind.TOUCH])):
+            with self.subTest(name), mock.patch.object(
+                    i_shape, name, return_value=wrong):
+                self.assertEqual(self.example.faults([ring])[name], 1)
+
+
 class Parcels(ExampleCase):
 
     name = "parcels"

@@ -42,6 +42,8 @@ ENDLESS = ("(WITH RECURSIVE numbers(x) AS (SELECT 1 UNION ALL SELECT x"
            " FROM numbers) SELECT count(*) FROM numbers)")
 COUNT = "SELECT count(*) FROM parcels"
 EDIT = "UPDATE parcels SET name = 'edited' WHERE fid < 40"
+LOCKED = ("database is locked: another program has it open; close it there, or"
+          " try again later")
 
 
 class Other:
@@ -174,8 +176,7 @@ class Shared(SharedCase):
                 with mock.patch.object(geopackage, "_PATIENCE", 0.1):
                     told = self.run_clean(out=out, status=mode == "delete")
                 if mode == "delete":
-                    self.assertEqual(told[1], f"i_shape: {out}: database is"
-                                     " locked\n")
+                    self.assertEqual(told[1], f"i_shape: {out}: {LOCKED}\n")
                 self.assertEqual(other.ask(read), old)
                 other.ask("COMMIT")
                 if mode == "wal":
@@ -193,8 +194,7 @@ class Shared(SharedCase):
                 other.ask("BEGIN IMMEDIATE")
                 with mock.patch.object(geopackage, "_PATIENCE", 0.1):
                     told = self.run_clean(out=out, status=1)
-                self.assertEqual(told[1], f"i_shape: {out}: database is"
-                                 " locked\n")
+                self.assertEqual(told[1], f"i_shape: {out}: {LOCKED}\n")
                 other.ask("ROLLBACK")
                 other.close()
                 self.assertEqual(self.dump_of(out), dumps[1])
@@ -207,8 +207,10 @@ class Shared(SharedCase):
             with mock.patch.object(geopackage, "_PATIENCE", 0.1):
                 told = self.run_clean(status=mode == "delete")[1]
             if mode == "delete":
-                self.assertEqual(told, f"i_shape: {self.given}: database is"
-                                 " locked\n")
+                self.assertEqual(told, f"i_shape: {self.given}: {LOCKED}\n")
+                with mock.patch.object(geopackage, "_PATIENCE", 0.1):
+                    self.assertEqual(told, self.run_command(
+                        "check", self.given, "--step", "1", status=1)[1])
             other.ask(EDIT)
             other.ask("COMMIT")
             self.run_clean()
@@ -293,6 +295,10 @@ class Shared(SharedCase):
 
 @samples.takes_long
 class Ended(SharedCase):
+
+    def setUp(self):
+        super().setUp()
+        samples.heed_interrupts(self)
 
     def run_hostile(self, hostile, out, *signals):
         """Its status after signals, once the program says what it does."""

@@ -75,6 +75,23 @@ class GeoSeries(unittest.TestCase):
         with self.assertRaisesRegex(ValueError, "others is 'drop'"):
             io.simplify_geoseries(self.series(), 0.1, others="drop")
 
+    def test_keys_are_those_of_the_features(self):
+        turned = geometry.Polygon(SPIKED[3:] + SPIKED[:3])
+        point = geometry.Point(1, 2)
+        given = self.series(turned, point)
+        keys = io.feature_keys(given, 0.1, others="keep")
+        self.assertEqual((keys.index.tolist(), keys.name),
+                         (given.index.tolist(), "parcels"))
+        key, = io.feature_keys(io.features_to_grid(
+            io.from_shapely([turned]), io.Grid(0.1)))
+        self.assertEqual(keys.tolist(), [key, None, key, b"", b"", key, None])
+        with self.assertRaisesRegex(io.FeatureError, "not a Point") as told:
+            io.feature_keys(given, io.Grid(0.1))
+        self.assertEqual(told.exception.feature, 6)
+        for call in io.feature_keys, io.simplify_features:
+            with self.assertRaisesRegex(TypeError, "not a GeoSeries: .* step"):
+                call(given)
+
     def test_what_is_no_geoseries_is_an_error(self):
         series = self.series()
         for given, name in ((geopandas.GeoDataFrame(geometry=series),

@@ -1,8 +1,12 @@
 """The faults of features: in words, of a GeoSeries, and by the command."""
 
 import json
+import random
 import unittest
 
+import numpy as np
+
+import plain
 import samples
 from i_shape import Fault, io
 from test_command import CommandCase
@@ -18,10 +22,23 @@ FAULTS = [
     (f"POLYGON ({SQUARE}, {HOLE})", None, "None"),
     ("POLYGON EMPTY", None, "None"),
     ("POLYGON ((0 0, 4.5 4.5, 4.5 0, 0 4.5, 0 0))",
-     (Fault.CONTACT, 0, 0, 0, (0, 2), ((0.0, 0.0), (4.5, 0.0))),
+     (Fault.CONTACT, 0, 0, 0, (0, 2), ((2.25, 2.25),),
+      ((0.0, 0.0), (4.5, 0.0))),
      "polygon 0, ring 0: edge 0 from (0, 0) meets edge 2 from (4.5, 0)"),
+    # on the line y = x / 3 and on y = 2 - 2x / 3
+    ("POLYGON ((0 0, 3 1, 3 0, 0 2, 0 0))",
+     (Fault.CONTACT, 0, 0, 0, (0, 2), ((2.0, 2 / 3),),
+      ((0.0, 0.0), (3.0, 0.0))),
+     "polygon 0, ring 0: edge 0 from (0, 0) meets edge 2 from (3, 0)"),
+    # the end at 5.1 is at 5 on the grid
+    ("POLYGON ((0 0, 9 0, 9 9, 0 9, 0 0), (5.1 0, 2 0, 2 3, 5 3, 5.1 0))",
+     (Fault.CONTACT, 0, 0, 1, (0, 0), ((2.0, 0.0), (5.0, 0.0)),
+      ((0.0, 0.0), (5.1, 0.0))),
+     "polygon 0, ring 0: edge 0 from (0, 0) meets edge 0 of ring 1 from"
+     " (5.1, 0)"),
     (f"MULTIPOLYGON (({SQUARE}), ({SQUARE}, (0.5 1, 1 1, 1 1.5, 0.5 1)))",
-     (Fault.CONTACT, 1, 0, 1, (3, 0), ((0.5, 2.0), (0.5, 1.0))),
+     (Fault.CONTACT, 1, 0, 1, (3, 0), ((0.5, 1.0),),
+      ((0.5, 2.0), (0.5, 1.0))),
      "polygon 1, ring 0: edge 3 from (0.5, 2) meets edge 0 of ring 1 from"
      " (0.5, 1)"),
     # 0.9 and 1.1 are 4 steps
@@ -56,6 +73,27 @@ class Explained(unittest.TestCase):
             self.assertEqual(list(map(str, found)),
                              [told for _, _, told in FAULTS])
 
+    def test_edges_meet_where_fractions_say(self):
+        numbers = random.Random(97)
+        rings = []
+        for most in 1000 * (3, 2 ** 40):
+            rings.append([(numbers.randrange(-most, most),
+                           numbers.randrange(-most, most))
+                          for _ in range(numbers.randrange(3, 8))])
+        grid, counts = io.Grid(0.3, (7, -2)), [0, 0, 0]
+        given = io.features_from_grid(io.features_of(
+            (*plain.flat(rings, np.int64), np.arange(len(rings) + 1))), grid)
+        for ring, fault in zip(rings, io.explain_validity(given, grid)):
+            if fault and fault.edges:
+                edges = [(ring[k], ring[(k + 1) % len(ring)])
+                         for k in fault.edges]
+                wanted = sorted(set(plain.shared(*edges[0], *edges[1])))
+                self.assertEqual(fault.points, tuple(
+                    (7 + float(x) * 0.3, -2 + float(y) * 0.3)
+                    for x, y in wanted))
+                counts[len(wanted)] += 1
+        self.assertGreater(min(counts[1:]), 30)
+
     def test_rounding_makes_and_ends_faults(self):
         text = "POLYGON ((0 0, 4 0, 4 4, 4 4.1, 0 4, 0 0))"
         given = io.from_wkt([text])
@@ -87,7 +125,8 @@ class Explained(unittest.TestCase):
                          (series.index.tolist(), "parcels"))
         self.assertEqual(found.tolist(), [
             None, None, None, None, io.FeatureFault(
-                Fault.CONTACT, 0, 0, 0, (0, 2), ((0.0, 0.0), (4.0, 0.0)))])
+                Fault.CONTACT, 0, 0, 0, (0, 2), ((2.0, 2.0),),
+                ((0.0, 0.0), (4.0, 0.0)))])
         self.assertIn("polygon 0, ring 0: edge 0 from", found.to_string())
         with self.assertRaises(io.FeatureError) as told:
             io.explain_validity(series, 1)
@@ -138,10 +177,10 @@ class Checked(CommandCase):
         features = json.loads(self.out.read_text())["features"]
         self.assertEqual(
             [(one["geometry"], one["properties"]) for one in features],
-            [({"type": "Point", "coordinates": point},
+            [({"type": "Point", "coordinates": [2, 2]},
               {"fid": 1, "reason": "polygon 0, ring 0: edge 0 from (0, 0)"
-               " meets edge 2 from (4, 0)"}) for point in ([0, 0], [4, 0])]
-            + [(None, {"fid": 2, "reason": FAULTS[-1][2]})])
+               " meets edge 2 from (4, 0)"}),
+             (None, {"fid": 2, "reason": FAULTS[-1][2]})])
 
     def test_the_points_have_the_members_of_the_collection(self):
         crs = {"type": "name",
@@ -155,7 +194,7 @@ class Checked(CommandCase):
                                  self.out, status=len(crossed))
                 written = json.loads(self.out.read_text())
                 self.assertEqual(written["crs"], crs)
-                self.assertEqual(len(written["features"]), 2 * len(crossed))
+                self.assertEqual(len(written["features"]), len(crossed))
 
     def test_others_are_left_out_or_errors(self):
         self.write(samples.geojson({"type": "Point", "coordinates": [0, 0]},
@@ -220,8 +259,7 @@ class CheckedGeoPackage(GeoPackageCase):
             self.assertEqual(out, "".join(told))
         features = json.loads(faults.read_text())["features"]
         self.assertEqual([one["properties"] for one in features],
-                         2 * [{"layer": "fields", "fid": 3,
-                               "reason": reason}])
+                         [{"layer": "fields", "fid": 3, "reason": reason}])
         self.assertEqual(self.given.read_bytes(), before)
         self.assertEqual({path.name for path in self.folder.iterdir()},
                          {"given.gpkg", "faults.geojson"})

@@ -11,7 +11,7 @@ import numpy as np
 import i_shape
 import plain
 from i_shape import _keys, io
-from test_polygons import flat, form, moved, random_polygons
+from test_polygons import flat, form, random_polygons, rewritten
 
 RINGS = [[(0, 0), (1, 0), (0, 1)], [(1, 0), (0, 1), (0, 0)],
          [(0, 0), (0, 1), (1, 0)], [(0, 0), (1, 1), (2, 2)],
@@ -156,8 +156,8 @@ class OfPolygons(unittest.TestCase):
                 polygons = random_polygons(numbers, dtype)
                 for oriented in (True, False):
                     for polygon in polygons:
-                        # moved() may add a polygon that collapses
-                        other = moved([polygon], numbers, oriented)
+                        # rewritten() may add a polygon that collapses
+                        other = rewritten([polygon], numbers, oriented)
                         one, two = (
                             [key for key in i_shape.canonical_keys(
                                 *flat(its, dtype), oriented=oriented) if key]
@@ -231,6 +231,58 @@ class OfPolygons(unittest.TestCase):
             keys = i_shape.canonical_keys(*flat([[], []], dtype))
             self.assertEqual(keys[0], keys[1])
             self.assertNotEqual(keys[0], b"")
+
+
+class OfFeatures(unittest.TestCase):
+
+    def features(self, lists):
+        polygons = i_shape.Polygons(*flat(sum(lists, []), np.int32))
+        offsets = np.cumsum([0, *map(len, lists)])
+        return io.Features(polygons, offsets, np.ones(len(lists), np.bool_))
+
+    def right(self, polygons, oriented):
+        """The keys of the polygons that a form of the list has, joined."""
+        its = i_shape.canonical_polygons(*flat(polygons, np.int32),
+                                         oriented=oriented)
+        keys = i_shape.canonical_keys(*its, oriented=oriented)
+        has_rings = np.diff(its.polygon_offsets) > 0
+        return b"".join(keys[has_rings].tolist())
+
+    def test_keys_are_those_of_the_polygons_in_canonical_order(self):
+        # Rings that collapse, and outer rings that several polygons share.
+        numbers = random.Random(42)
+        lists = [[[numbers.choice(RINGS) for _ in range(numbers.randrange(4))]
+                  for _ in range(numbers.randrange(5))] for _ in range(300)]
+        features = self.features(lists)
+        for oriented in (False, True):
+            right = [self.right(polygons, oriented) for polygons in lists]
+            for threads in (1, 2, 3):
+                self.assertEqual(
+                    io.feature_keys(features, oriented=oriented,
+                                    threads=threads).tolist(), right)
+            for block in (1, 7, 299, 300):
+                with mock.patch.object(_keys, "_BLOCK", block):
+                    self.assertEqual(
+                        io.feature_keys(features, oriented=oriented).tolist(),
+                        right)
+
+    def test_forms_have_these_keys(self):
+        numbers = random.Random(43)
+        lists = [[[numbers.choice(RINGS[:3]), *numbers.choices(RINGS, k=2)]
+                  for _ in range(numbers.randrange(4))] for _ in range(200)]
+        features = self.features(lists)
+        for threads in (1, 3):
+            its = io.canonical_features(features, collapsed="empty",
+                                        threads=threads)
+            ends = its.feature_offsets
+            keys = i_shape.canonical_keys(*its.polygons)
+            self.assertEqual([b"".join(keys[a:b]) for a, b in zip(
+                ends, ends[1:])], io.feature_keys(features).tolist())
+
+    def test_no_features(self):
+        self.assertEqual(io.feature_keys(self.features([])).shape, (0,))
+        self.assertEqual(io.feature_keys(self.features([[], [[]]])).tolist(),
+                         [b"", b""])
 
 
 class Golden(unittest.TestCase):

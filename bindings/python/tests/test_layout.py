@@ -12,6 +12,7 @@ from pathlib import Path
 import numpy as np
 
 import i_shape
+import plain
 import samples
 
 HERE = Path(__file__).resolve().parent
@@ -29,6 +30,15 @@ def form(ring):
 
 def is_clean(ring):
     return i_shape.is_simple(np.array(ring, np.int64))
+
+
+def counted(left):
+    """What the example says of equal polygons and of invalid ones."""
+    equal = sum(len(rings) - len({str(form(ring)) for ring in rings})
+                for rings in left.values())
+    invalid = sum(any(plain.contacts([ring]))
+                  for rings in left.values() for ring in rings)
+    return f"\n{equal} repeat an earlier one, {invalid} aren't valid\n"
 
 
 @samples.takes_long
@@ -70,6 +80,8 @@ class Layout(unittest.TestCase):
                 self.assertRegex(told, words)
             left = self.rings(told=out)
             self.assertEqual(set(left), set(compressed))
+            if kind == "gds":  # which keeps equal polygons
+                self.assertIn(counted(left), told)
             gone = re.findall(r"^gone: cell (\S+), layer (\d+)/0, box (.*)$",
                               told, re.MULTILINE)
             for place, rings in compressed.items():

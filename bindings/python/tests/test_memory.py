@@ -1,5 +1,6 @@
 """Memory: none is lost over many calls, and where none is left calls fail."""
 
+import gc
 import os
 import resource
 import subprocess
@@ -24,6 +25,7 @@ def resident():
 class Leaks(unittest.TestCase):
 
     def assert_no_leak(self, call, times):
+        gc.collect()  # Python then keeps no memory of freed tuples either
         for _ in range(100):
             call()
         tracemalloc.start()

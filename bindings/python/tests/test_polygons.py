@@ -46,9 +46,14 @@ def random_polygons(numbers, dtype):
             for _ in range(numbers.randrange(6))]
 
 
-def moved(polygons, numbers, oriented=True):
-    """The same polygons after some moves."""
-    def moved_ring(ring):
+def rewritten(polygons, numbers, oriented=True):
+    """The same polygons, written otherwise, so that their form is the same.
+
+    Rings have another start, a repeated point and, unless ``oriented``, the
+    other direction; holes and polygons have another order; and some rings
+    that collapse are added.
+    """
+    def rewritten_ring(ring):
         turn = numbers.randrange(len(ring) + 1)
         ring = ring[turn:] + ring[:turn]
         if ring and numbers.random() < 0.5:
@@ -61,7 +66,7 @@ def moved(polygons, numbers, oriented=True):
     flat_ring = [(0, 0), (1, 1), (2, 2)]
     other = []
     for polygon in polygons:
-        rings = [moved_ring(ring) for ring in polygon]
+        rings = [rewritten_ring(ring) for ring in polygon]
         holes = rings[1:]
         if rings and numbers.random() < 0.3:
             holes.append(flat_ring)
@@ -139,7 +144,7 @@ class Polygons(unittest.TestCase):
             for _ in range(150):
                 polygons = random_polygons(numbers, dtype)
                 for oriented in (True, False):
-                    other = moved(polygons, numbers, oriented)
+                    other = rewritten(polygons, numbers, oriented)
                     self.assertIs(i_shape.same_polygons(
                         flat(polygons, dtype), flat(other, dtype),
                         oriented=oriented), True)

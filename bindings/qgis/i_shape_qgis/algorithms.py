@@ -390,8 +390,8 @@ class Validity(_Algorithm):
             " edges that cross, touch or overlap, or a hole outside the outer"
             " ring or within another hole. For each such feature the output"
             " has one, with the kind, the place and the points of its first"
-            " fault: for two edges the points from which they lead, or else"
-            " the first point of the ring.")
+            " fault: for two edges the points at which they meet, or else the"
+            " first point of the ring.")
     OTHERS_HELP = _OTHERS_HELP + _UNTESTED_HELP
 
     def initAlgorithm(self, config=None):

@@ -191,15 +191,19 @@ class QgisTest(unittest.TestCase):
 
     @unittest.skipUnless(os.environ.get("MOD_I_SHAPE"), "there is no extension of SQLite")
     def test_sqlite(self):
-        """The same layer by a SELECT."""
+        """The same layer by a SELECT, and among the points of its contacts those of the faults."""
         given = self.package(parcels(400))
         store = sqlite3.connect(given)
         store.enable_load_extension(True)
         store.load_extension(os.environ["MOD_I_SHAPE"])
         calls = ", ".join(f"i_shape_{call}(geom, 0.01)" for call in (*CLEANED, "is_valid", "validity_reason"))
-        rows = store.execute(f"SELECT fid, {calls} FROM parcels ORDER BY fid").fetchall()
+        rows = store.execute(f"SELECT fid, {calls}, i_shape_contact_points(geom, 0.01) FROM parcels ORDER BY fid").fetchall()
         store.close()
-        self.are_as_by_command(given, [(fid, *map(bare, left), verdict, reason) for fid, *left, verdict, reason in rows])
+        self.are_as_by_command(given, [(fid, *map(bare, left), verdict, reason) for fid, *left, verdict, reason, _ in rows])
+        met = {fid: points_of(bare(blob)) for fid, *_, blob in rows}
+        faults = [(fid, points) for fid, (reason, points) in self.faults(given, "0.01")[0].items() if " meets " in reason]
+        self.assertEqual({len(points) for _, points in faults}, {1, 2})
+        self.assertEqual([(fid, point) for fid, points in faults for point in points if point not in met[fid]], [])
 
     @unittest.skipUnless(os.environ.get("PGHOST"), "there is no server of PostgreSQL")
     def test_postgis(self):

@@ -176,7 +176,7 @@ static void check_validity(Block given) {
     must(sqlite3_column_int(calls[IS_VALID], 0) == (sqlite3_column_type(calls[REASON], 0) == SQLITE_NULL), "the verdict isn't that of the reason");
 }
 
-/* It tells whether the blob is taken. */
+/* Returns whether the calls take the blob. */
 static bool check_bytes(void) {
     Block given = copy_of(bytes, length);
     step = below(4) ? 1 : 0.3;

@@ -35,6 +35,7 @@ _SHAPEFILE = (
     " despike x.gpkg x.gpkg --step S && ogr2ogr OUT.shp x.gpkg (GeoJSONSeq"
     " would turn its coordinates into degrees)")
 _signals: list[int] = []  # the one that ends the program, if any
+_NO_READER = 128 + 13  # what a shell has for a program that SIGPIPE ends
 
 
 def _file(text: str) -> Path:
@@ -157,7 +158,7 @@ def _fault(options: argparse.Namespace) -> Optional[str]:
         return "the following arguments are required: OUT"
     given, out = map(files.format_of, (options.given, options.out))
     if (out == files.GEOPACKAGE) != is_package:
-        return "a GeoPackage is written of a GeoPackage, and of nothing else"
+        return "IN and OUT are both GeoPackages or neither: ogr2ogr converts"
     if options.others == "keep" and (given == "WKT") != (out == "WKT"):
         return "--others keep doesn't turn GeoJSON into WKT, nor WKT into it"
     if options.oriented and options.call not in ("canonical", "dedup"):
@@ -261,14 +262,17 @@ def main(words: Optional[Sequence[str]] = None) -> int:
     """Run the command, and return its status.
 
     It is 0 where all went well, 1 after an error, which a line on standard
-    error names, or where check finds a feature that isn't valid, and 130
-    where it was interrupted. Words that aren't understood end the program
-    with 2. OUT is replaced last, and then a line on standard error says how
-    many features changed, or aren't valid.
+    error names, or where check finds a feature that isn't valid, 130 where
+    it was interrupted, and 141 where nobody reads a pipe any more. Words
+    that aren't understood end the program with 2. OUT is replaced last, and
+    then a line on standard error says how many features changed, or aren't
+    valid.
     """
     options = _options(words)
     try:
         told = _run(options)
+    except BrokenPipeError:
+        return _NO_READER
     except OSError as error:
         # SQLite makes an error of its own of what ends a function of ours.
         return 128 + _signals[0] if _signals else _told(str(error))
@@ -306,7 +310,11 @@ def run() -> NoReturn:
     if signal.getsignal(signal.SIGINT) is signal.default_int_handler:
         signal.signal(signal.SIGINT, _stop)
     signal.signal(signal.SIGTERM, _stop)
-    sys.exit(main())
+    status = main()
+    if status == _NO_READER and sys.stdout is not None:
+        # Else Python would try once more to write what is left.
+        os.dup2(os.open(os.devnull, os.O_WRONLY), sys.stdout.fileno())
+    sys.exit(status)
 
 
 if __name__ == "__main__":

@@ -135,8 +135,8 @@ def _list_contacts(call: Any, *given: Array) -> tuple[int, Array]:
 def contacts(points: npt.NDArray[Int]) -> npt.NDArray[np.intp]:
     """Return all pairs of edges of a contour that are in contact.
 
-    :func:`first_contact` says what that is. All pairs of edges are tried:
-    for twice as many points it takes four times as long.
+    :func:`first_contact` says what that is. It takes nearly linear time
+    where few boxes around edges overlap, and otherwise up to quadratic time.
 
     Parameters
     ----------
@@ -295,14 +295,14 @@ def kinds_of_contacts(contours: Contours[Int],
     [[1, 3], [3, 5], [3, 6]]
     """
     given = given_contours(contours)
-    edges = _edges(given, as_pairs(contacts, "contacts").astype(np.int64))
+    edges = edges_of(given, as_pairs(contacts, "contacts").astype(np.int64))
     kinds = np.empty(len(edges) // 4, np.uint8)
     code = CALLS[edges.itemsize].kinds_of_contacts(*words(edges, kinds))
     raise_codes([code], given)
     return kinds
 
 
-def _edges(given: GivenRings, places: Array) -> Array:
+def edges_of(given: GivenRings, places: Array) -> Array:
     """The ends of the edges that lead from these places."""
     points, offsets, _ = given
     outside = (places < offsets[0]) | (places >= offsets[-1])

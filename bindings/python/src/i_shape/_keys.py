@@ -12,7 +12,8 @@ import numpy as np
 import numpy.typing as npt
 
 from ._library import Array
-from ._polygons import form_each, given_polygons, left_polygons, which_left
+from ._polygons import (Polygons, form_each, given_polygons, left_polygons,
+                        which_left)
 from ._rings import Rings, canonical_cleaner, canonical_rings
 
 Int = TypeVar("Int", np.int16, np.int32, np.int64)
@@ -41,9 +42,16 @@ def _keys_of_rings(forms: Rings) -> Iterator[bytes]:
 def _keys_of_forms(forms: Rings, parts: Array) -> list[bytes]:
     """The keys of polygons of these forms, of which some rings are empty."""
     left = which_left(forms.offsets, parts)
-    points, offsets, firsts = left_polygons(forms, left)
+    words, starts = _words_of(left_polygons(forms, left))
+    return _cut(words, starts[np.searchsorted(left.polygons,
+                                              np.arange(len(parts)))])
+
+
+def _words_of(forms: Polygons) -> Tuple[Array, Array]:
+    """The words of the keys of polygons, and where each of these begins."""
+    points, offsets, firsts = forms
     counts = np.diff(firsts)
-    # Each polygon that is left begins with its word, and each ring with one.
+    # Each polygon begins with its word, and each ring with one.
     starts = np.arange(len(firsts)) + firsts + 2 * offsets[firsts]
     ring_words = (np.repeat(np.arange(1, len(firsts)), counts)
                   + np.arange(len(offsets) - 1) + 2 * offsets[:-1])
@@ -53,8 +61,7 @@ def _keys_of_forms(forms: Rings, parts: Array) -> list[bytes]:
     words[starts[:-1]] = counts + _OF_POLYGON
     words[ring_words] = np.diff(offsets)
     words[is_point] = points.ravel()
-    return _cut(words, starts[np.searchsorted(left.polygons,
-                                              np.arange(len(parts)))])
+    return words, starts
 
 
 def keys_of_polygons(forms: Rings, polygon_offsets: Array) -> list[bytes]:
@@ -66,6 +73,30 @@ def keys_of_polygons(forms: Rings, polygon_offsets: Array) -> list[bytes]:
         ends = forms.offsets[parts[0]:parts[-1] + 1]
         its = Rings(forms.points[ends[0]:ends[-1]], ends - ends[0])
         keys += _keys_of_forms(its, parts - parts[0])
+    return keys
+
+
+def _keys_of_lists(forms: Polygons, features: Array) -> list[bytes]:
+    """The keys of lists of polygons, each the keys of its polygons."""
+    points, offsets, firsts = forms
+    has_rings = np.diff(firsts) > 0  # a polygon without them doesn't count
+    before = np.concatenate([[0], np.cumsum(has_rings)])
+    firsts = np.append(firsts[:-1][has_rings], firsts[-1])
+    words, starts = _words_of(Polygons(points, offsets, firsts))
+    return _cut(words, starts[before[features]])
+
+
+def keys_of_features(forms: Polygons, features: Array) -> list[bytes]:
+    """The keys of features, by the polygons of their forms."""
+    keys: list[bytes] = []
+    # One block after another takes less memory.
+    for start in range(0, len(features) - 1, _BLOCK):
+        its = features[start:start + _BLOCK + 1]
+        parts = forms.polygon_offsets[its[0]:its[-1] + 1]
+        ends = forms.ring_offsets[parts[0]:parts[-1] + 1]
+        keys += _keys_of_lists(
+            Polygons(forms.points[ends[0]:ends[-1]], ends - ends[0],
+                     parts - parts[0]), its - its[0])
     return keys
 
 

@@ -12,8 +12,8 @@ import os
 import sys
 from concurrent.futures import ThreadPoolExecutor
 from pathlib import Path
-from typing import (Any, Callable, Iterator, Literal, NamedTuple, NoReturn,
-                    Optional, TypeVar)
+from typing import (Any, Callable, Literal, NamedTuple, NoReturn, Optional,
+                    TypeVar)
 
 import numpy as np
 import numpy.typing as npt
@@ -89,6 +89,7 @@ class Calls(NamedTuple):
     many: dict[str, Any]
     polygons: dict[str, Any]
     forms: dict[str, Any]
+    features: dict[str, Any]
     test: dict[str, Any]
     test_many: dict[str, Any]
     first_unsafe: Any
@@ -132,6 +133,9 @@ def _calls(bits: int, number: Any, area: Any) -> Calls:
         forms={name: _call(f"i_shape_{name}_polygons_i{bits}",
                            ctypes.c_ssize_t, *array * 5)
                for name in ("canonical", "canonical_unoriented")},
+        features={name: _call(f"i_shape_{name}_features_i{bits}",
+                              ctypes.c_ssize_t, *array * 7)
+                  for name in ("canonical", "canonical_unoriented")},
         test={name: _call(f"i_shape_{name}_i{bits}", ctypes.c_int32, *array)
               for name in (*tests, "is_simple_polygon")},
         test_many={name: _call(f"i_shape_{many}_i{bits}", ctypes.c_int32,
@@ -199,10 +203,13 @@ def address(array: Array) -> int:
     return array.ctypes.data if array.size else _NOTHING
 
 
-def words(*arrays: Array) -> Iterator[int]:
-    """Of each array what a call takes: its address and its length."""
-    for array in arrays:
-        yield from (address(array), len(array))
+def words(*arrays: Array) -> list[int]:
+    """Of each array what a call takes: its address and its length.
+
+    Of a generator, Python would make a tuple of another length first, and
+    keep one more of those with each call, up to 2,000.
+    """
+    return [word for array in arrays for word in (address(array), len(array))]
 
 
 def _as_it_lies(array: Array) -> bool:

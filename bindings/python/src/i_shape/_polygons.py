@@ -119,20 +119,70 @@ def _clean_rings(cleaner: str, given: GivenPolygons,
     return left_polygons(rings, which_left(rings.offsets, given.parts))
 
 
-def clean_whole(cleaner: str, given: GivenPolygons) -> Polygons:
-    """Clean the polygons by one call of the library."""
+def _call_on(call: Any, given: GivenPolygons,
+             *features: Array) -> Tuple[int, Polygons]:
+    """What a call of the library returns, and leaves of the polygons.
+
+    ``features`` has the offsets that divide these, if the call takes any.
+    """
     points, rings, _ = given.rings
     first, last = int(rings[0]), int(rings[-1])
     points, rings = points[first:last], rings - first
     left = Polygons(np.empty_like(points), np.empty_like(rings),
                     np.empty_like(given.parts))
-    count: int = CALLS[points.itemsize].polygons[cleaner](
-        *words(points, rings, given.parts, *left))
+    count: int = call(*words(points, rings, given.parts, *features, *left))
+    if count >= 0:
+        _shrink(left.polygon_offsets, count + 1)
+        _shrink(left.ring_offsets, int(left.polygon_offsets[-1]) + 1)
+        _shrink(left.points, int(left.ring_offsets[-1]))
+    return count, left
+
+
+def clean_whole(cleaner: str, given: GivenPolygons) -> Polygons:
+    """Clean the polygons by one call of the library."""
+    call = CALLS[given.rings.points.itemsize].polygons[cleaner]
+    count, left = _call_on(call, given)
     raise_codes([count], given.rings)
-    _shrink(left.polygon_offsets, count + 1)
-    _shrink(left.ring_offsets, int(left.polygon_offsets[-1]) + 1)
-    _shrink(left.points, int(left.ring_offsets[-1]))
     return left
+
+
+def _joined(parts: list[Polygons]) -> Polygons:
+    """The polygons of all parts, one after the other."""
+    if len(parts) == 1:
+        return parts[0]
+
+    def offsets(each: list[Array]) -> Array:
+        ends = np.cumsum([0, *(part[-1] for part in each)])
+        return np.concatenate([ends[:1], *(
+            part[1:] + end for part, end in zip(each, ends))])
+
+    points, rings, polygons = (list(each) for each in zip(*parts))
+    return Polygons(np.concatenate(points), offsets(rings), offsets(polygons))
+
+
+def form_features(cleaner: str, given: GivenPolygons, features: Array,
+                  threads: Any) -> Polygons:
+    """The polygons of the form of each feature.
+
+    The offsets ``features`` divide the polygons that are given, all of
+    them, and those that are returned. One that collapses has no rings, and
+    stays in its feature.
+    """
+    (points, rings, before), parts = given
+    call = CALLS[points.itemsize].features[cleaner]
+    cuts = equal_cuts(rings[parts[features]],
+                      as_parts(threads, len(features) - 1))
+
+    def form_part(part: int) -> Tuple[int, Polygons]:
+        its = features[cuts[part]:cuts[part + 1] + 1]
+        ends = parts[its[0]:its[-1] + 1]
+        its_rings = GivenRings(points, rings[ends[0]:ends[-1] + 1], before)
+        return _call_on(call, GivenPolygons(its_rings, ends - ends[0]),
+                        its - its[0])
+
+    answers = run_parts(form_part, len(cuts) - 1)
+    raise_codes([count for count, _ in answers], given.rings)
+    return _joined([left for _, left in answers])
 
 
 def form_each(cleaner: str, given: GivenPolygons, threads: Any) -> Rings:

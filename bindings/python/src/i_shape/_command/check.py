@@ -43,8 +43,8 @@ def run(pair: Pair, grid: Grid, to: Optional[Path]) -> Told:
         with block.naming():
             whole = rounded_features(block.features, grid)
         count += len(whole.are_multi)
-        for record, fault in zip(block.polygon_records,
-                                 faults_of(block.features, whole)):
+        faults = faults_of(block.features, whole, grid)
+        for record, fault in zip(block.polygon_records, faults):
             if fault is not None:
                 lines.append(f"{record.place}: {fault}")
                 points += _points(block.group, record.fid, fault)

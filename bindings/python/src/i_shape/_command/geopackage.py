@@ -32,6 +32,7 @@ _PAGES = 4096  # of a file that is copied, after which a signal may end it
 _GROWTH = 4, 1 << 26  # how many times its size, and bytes more, a file may get
 _CACHE = 1 << 18  # KiB of changed pages before SQLite locks readers out
 _BUSY = 5  # SQLite's code for a file that another program locks
+_LOCKED = "database is locked"  # and its words
 _BOXES, _EMPTY, _EXTENDED = 0x0e, 0x10, 0x20
 _NUMBERS = (struct.Struct(">d").unpack_from, struct.Struct("<d").unpack_from)
 _FULL_HEAD, _EMPTY_HEAD = b"GP\0\3", b"GP\0\x11"  # with a box; without one
@@ -194,6 +195,10 @@ def _naming(path: Path, what: str = "") -> Iterator[None]:
         yield
     except sqlite3.Error as error:
         words = " ".join(str(error).split())  # it may quote lines of SQL
+        if words == _LOCKED:
+            what = ""  # whatever else it says isn't so
+            words += (": another program has it open; close it there, or try"
+                      " again later")
         raise OSError(f"{path}: {what}{words}") from error
 
 
@@ -384,7 +389,7 @@ def _bring(source: sqlite3.Connection, goal: sqlite3.Connection) -> None:
     """Make a database a copy of another, in one transaction."""
     def ask(status: int, *_: int) -> None:
         if status == _BUSY:  # for as long as the connection has patience
-            raise sqlite3.OperationalError("database is locked")
+            raise sqlite3.OperationalError(_LOCKED)
 
     source.backup(goal, pages=_PAGES, progress=ask)
 

@@ -217,7 +217,7 @@ def parsed(parse: Parse[Item], text: str, at: int) -> tuple[Item, int]:
 
 
 class Pieces:
-    """A text of JSON, of which no more is held than what is needed next."""
+    """A text of JSON, of which only what is needed next is held."""
 
     def __init__(self, file: TextIO) -> None:
         self._file = file
@@ -244,7 +244,7 @@ class Pieces:
         return True
 
     def _is_sure(self, place: int) -> bool:
-        """Whether what follows gives no other meaning to what ends here.
+        """Whether what follows can't change what ends here.
 
         A number may go on behind the end of what is held.
         """

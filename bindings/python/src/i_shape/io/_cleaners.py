@@ -7,11 +7,11 @@ from typing import Callable, NamedTuple
 import numpy as np
 import numpy.typing as npt
 
-from .._keys import as_objects, keys_of_polygons
+from .._keys import as_objects, keys_of_features
 from .._library import Array
-from .._polygons import (GivenPolygons, Polygons, clean_whole, left_polygons,
-                         which_left)
-from .._rings import GivenRings, Rings, canonical_cleaner, clean_rings
+from .._polygons import (GivenPolygons, Polygons, form_features,
+                         left_polygons, which_left)
+from .._rings import canonical_cleaner, clean_rings
 from ._collapse import check_collapsed, require_uncollapsed
 from ._features import Checked, Features, as_features, rings_of
 
@@ -21,10 +21,6 @@ class Cleaned(NamedTuple):
 
     features: Checked
     collapsed: Array
-
-
-def _ends(counts: Array) -> Array:
-    return np.concatenate([np.zeros(1, np.int64), np.cumsum(counts)])
 
 
 def clean(features: Checked, cleaner: str, threads: int = 1) -> Cleaned:
@@ -39,32 +35,33 @@ def clean(features: Checked, cleaner: str, threads: int = 1) -> Cleaned:
         np.diff(rings.offsets) == 0)
 
 
-def _in_order(features: Checked, oriented: bool) -> Checked:
+def _in_order(features: Checked, oriented: bool, threads: int) -> Checked:
     """Put the rings and polygons of each feature in canonical order.
 
     Their rings are canonical already, so that only a feature with several
     polygons or holes has something to order.
     """
-    (points, ends, parts), offsets, _ = features
-    points, ends, parts = points.copy(), ends.copy(), parts.copy()
-    with_holes = _ends(np.diff(parts) > 2)
-    several = (np.diff(offsets) > 1) | (np.diff(with_holes[offsets]) > 0)
-    for place in np.flatnonzero(several).tolist():
-        first, last = offsets[place], offsets[place + 1]
-        its_ends = ends[parts[first]:parts[last] + 1]
-        form = clean_whole(canonical_cleaner(oriented), GivenPolygons(
-            GivenRings(points, its_ends),
-            parts[first:last + 1] - parts[first]))
-        points[its_ends[0]:its_ends[-1]] = form.points
-        ends[parts[first]:parts[last] + 1] = form.ring_offsets + its_ends[0]
-        parts[first:last + 1] = form.polygon_offsets + parts[first]
-    return Checked(features._replace(polygons=Polygons(points, ends, parts)))
+    parts = features.polygons.polygon_offsets
+    if (np.diff(features.feature_offsets) < 2).all() and (
+            np.diff(parts) < 3).all():
+        return features
+    return Checked(features._replace(polygons=_form(
+        features, oriented, threads)))
+
+
+def _form(features: Checked, oriented: bool, threads: int) -> Polygons:
+    """The polygons of the form of each feature, by one call for all."""
+    return form_features(
+        canonical_cleaner(oriented),
+        GivenPolygons(rings_of(features), features.polygons.polygon_offsets),
+        features.feature_offsets, threads)
 
 
 def forms(features: Checked, oriented: bool, threads: int = 1) -> Cleaned:
     """The canonical form of each feature, and which rings collapsed."""
     cleaned = clean(features, canonical_cleaner(oriented), threads)
-    return cleaned._replace(features=_in_order(cleaned.features, oriented))
+    return cleaned._replace(features=_in_order(cleaned.features, oriented,
+                                               threads))
 
 
 def _left(features: Features, collapsed: str,
@@ -81,14 +78,8 @@ def _left(features: Features, collapsed: str,
 def keys_of(features: Checked, oriented: bool,
             threads: int = 1) -> npt.NDArray[np.object_]:
     """The key of each feature."""
-    (points, rings, parts), offsets, _ = forms(
-        features, oriented, threads).features
-    keys = keys_of_polygons(Rings(points, rings), parts)
-    for place in np.flatnonzero(np.diff(parts) == 0).tolist():
-        keys[place] = b""  # a polygon without rings doesn't count
-    ends = offsets.tolist()
-    return as_objects([b"".join(keys[start:end])
-                       for start, end in zip(ends, ends[1:])])
+    return as_objects(keys_of_features(_form(features, oriented, threads),
+                                       features.feature_offsets))
 
 
 def simplify_features(features: Features, *, collapsed: str = "raise",
@@ -221,47 +212,3 @@ def canonical_features(features: Features, *, collapsed: str = "raise",
     """
     return _left(features, collapsed, lambda its: forms(
         its, oriented, threads))
-
-
-def feature_keys(features: Features, *, oriented: bool = False,
-                 threads: int = 1) -> npt.NDArray[np.object_]:
-    """Return a key of each feature.
-
-    Two keys are equal where :func:`canonical_features` returns equal lists
-    of polygons, of which those without rings don't count; a polygon equals
-    a multipolygon that has just this one. So a dictionary or a table of a
-    database finds equal features among many.
-
-    Parameters
-    ----------
-    features : Features
-        Of whole numbers, as :func:`features_to_grid` returns them.
-    oriented : bool
-        True reads no ring backwards, as for :func:`canonical_features`.
-    threads : int
-        As for :func:`i_shape.simplify_rings`.
-
-    Returns
-    -------
-    array of shape (n,) and dtype object
-        For each feature the keys that :func:`i_shape.canonical_keys` makes
-        of its polygons, end to end in canonical order, as ``bytes``. It is
-        empty where nothing is left.
-
-    Raises
-    ------
-    UnsafePointError, OffsetsError, FeatureError
-        As :func:`simplify_features` does.
-    TypeError, ValueError, MemoryError
-        As :func:`simplify_features` does.
-
-    Examples
-    --------
-    >>> from i_shape.io import Grid, feature_keys, features_to_grid, from_wkt
-    >>> features = from_wkt(["POLYGON ((0 0, 4 0, 4 4, 0 0))",
-    ...                      "MULTIPOLYGON (((4 4, 4 0, 2 0, 0 0, 4 4)))"])
-    >>> one, other = feature_keys(features_to_grid(features, Grid(1)))
-    >>> one == other
-    True
-    """
-    return keys_of(as_features(features), oriented, threads)

@@ -219,6 +219,11 @@ def as_rings(points: Any, offsets: Any) -> tuple[Array, Array]:
 
 def as_features(features: Any) -> Checked:
     """The features, tested, with offsets from 0 on and nothing besides."""
+    if not isinstance(features, tuple):
+        raise TypeError("expected Features, as from_shapely returns them, not"
+                        f" a {type(features).__name__}"
+                        + (": calls that take a GeoSeries take a step too"
+                           if hasattr(features, "geometry") else ""))
     (points, rings, parts), offsets, are_multi = features
     points = as_plane_points(points)
     if points.dtype.kind == "f":

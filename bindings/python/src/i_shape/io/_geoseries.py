@@ -4,7 +4,7 @@ from __future__ import annotations
 
 from contextlib import contextmanager
 from functools import partial
-from typing import Any, Callable, Iterator, Union
+from typing import Any, Callable, Iterator, NamedTuple, Union
 
 import numpy as np
 
@@ -12,7 +12,7 @@ from .._library import Array
 from ._builder import short
 from ._cleaners import Cleaned, clean, forms
 from ._collapse import check_collapsed, require_uncollapsed
-from ._features import Checked, FeatureError
+from ._features import Checked, FeatureError, as_features
 from ._grid import Grid, floats_of, rounded_features
 from ._shapely import fault_of, geometries_of, read_geometries
 
@@ -46,6 +46,29 @@ def naming(places: Array) -> Iterator[None]:
     except FeatureError as error:
         assert error.feature is not None
         raise error.of(int(places[error.feature])) from None
+
+
+class Placed(NamedTuple):
+    """Features of whole numbers, and the place of each among those given."""
+
+    features: Checked
+    places: Array
+
+
+def placed(features: Any, grid: Grid, others: str) -> Placed:
+    """Features, or the polygons of a series, on the grid."""
+    if isinstance(features, tuple):
+        if others != "raise":
+            raise ValueError("others is for a GeoSeries")
+        given = as_features(features)
+        return Placed(rounded_features(given, grid),
+                      np.arange(len(given.are_multi)))
+    require_series(features)
+    geometries = features.array
+    places = polygon_places(geometries, others)
+    with naming(places):
+        return Placed(rounded_features(read_geometries(geometries[places]),
+                                       grid), places)
 
 
 def _cleaned(series: Any, step: Union[float, Grid],

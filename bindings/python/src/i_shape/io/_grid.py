@@ -201,10 +201,11 @@ def from_grid(points: npt.NDArray[Any],
     >>> from_grid(np.array([(123456789, -3)]), Grid(1e-7)).tolist()
     [[12.3456789, -3e-07]]
     """
-    return _brought_back(as_points(points), grid)
+    return brought_back(as_points(points), grid)
 
 
-def _brought_back(points: Array, grid: Grid) -> npt.NDArray[np.float64]:
+def brought_back(points: Array, grid: Grid) -> npt.NDArray[np.float64]:
+    """The coordinates of numbers of steps, which need not be whole."""
     counts = points.astype(np.float64)
     parts = grid._steps_to_one()
     moved = counts / parts if parts else counts * float(grid.step)
@@ -302,4 +303,4 @@ def floats_of(features: Checked, grid: Grid) -> Checked:
     A float that overflows isn't looked for.
     """
     return Checked(features.with_points(
-        _brought_back(features.polygons.points, grid)))
+        brought_back(features.polygons.points, grid)))

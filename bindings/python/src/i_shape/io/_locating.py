@@ -2,7 +2,7 @@
 
 from __future__ import annotations
 
-from typing import Any, NamedTuple, Union
+from typing import Any, Union
 
 import numpy as np
 import numpy.typing as npt
@@ -11,33 +11,9 @@ from .._errors import UnsafePointError
 from .._library import Array, FillRule, as_rule
 from .._polygons import GivenPolygons
 from .._windings import find_holders
-from ._features import Checked, as_features, as_plane_points, rings_of
-from ._geoseries import naming, polygon_places, require_series
-from ._grid import Grid, rounded, rounded_features
-from ._shapely import read_geometries
-
-
-class _Placed(NamedTuple):
-    """Features of whole numbers, and the place of each among those given."""
-
-    features: Checked
-    places: Array
-
-
-def _placed(features: Any, grid: Grid, others: str) -> _Placed:
-    """The features on the grid."""
-    if isinstance(features, tuple):
-        if others != "raise":
-            raise ValueError("others is for a GeoSeries")
-        given = as_features(features)
-        return _Placed(rounded_features(given, grid),
-                       np.arange(len(given.are_multi)))
-    require_series(features)
-    geometries = features.array
-    places = polygon_places(geometries, others)
-    with naming(places):
-        return _Placed(rounded_features(read_geometries(geometries[places]),
-                                        grid), places)
+from ._features import as_plane_points, rings_of
+from ._geoseries import Placed, placed, require_series
+from ._grid import Grid, rounded
 
 
 def _point_places(geometries: Any) -> Array:
@@ -60,7 +36,7 @@ def _on_grid(points: Array, places: Array, grid: Grid) -> Array:
     return whole.points
 
 
-def _holders(given: _Placed, about: Array, rule: int,
+def _holders(given: Placed, about: Array, rule: int,
              threads: int) -> npt.NDArray[np.intp]:
     """The place of the first feature that holds each of the points, or -1."""
     whole, places = given
@@ -81,7 +57,7 @@ def _require_one_crs(features: Any, points: Any) -> None:
                          f" {one}")
 
 
-def _located_series(given: _Placed, points: Any, grid: Grid, rule: int,
+def _located_series(given: Placed, points: Any, grid: Grid, rule: int,
                     threads: int) -> Any:
     import pandas
     places = _point_places(points.array)
@@ -157,8 +133,8 @@ def locate_in_features(features: Any, points: Any, step: Union[float, Grid],
     if isinstance(points, (np.ndarray, list, tuple)):
         about = as_plane_points(points)
         whole = _on_grid(about, np.arange(len(about)), grid)
-        return _holders(_placed(features, grid, others), whole, code, threads)
+        return _holders(placed(features, grid, others), whole, code, threads)
     require_series(points)
     _require_one_crs(features, points)
-    return _located_series(_placed(features, grid, others), points, grid,
+    return _located_series(placed(features, grid, others), points, grid,
                            code, threads)

@@ -13,10 +13,9 @@ from .._polygons import GivenPolygons
 from ._features import Checked, Features, as_features, rings_of
 from ._geoseries import naming, polygon_places, require_series
 from ._grid import Grid, rounded_features
+from ._meetings import Coordinates, meetings
 from ._shapely import read_geometries
 from ._wkt import shown
-
-Coordinates = Tuple[float, float]
 
 
 @dataclass(frozen=True)
@@ -41,9 +40,14 @@ class FeatureFault:
         For ``Fault.CONTACT``, of each edge the index in its ring of the
         point from which it leads. None for other kinds.
     points : tuple of (x, y)
-        Where it is, in the coordinates of the features: the points from
-        which the two edges lead, or else the first point of the ring, or
-        nothing where it has none.
+        Where it is. For ``Fault.CONTACT``, of the edges on the grid: the
+        point at which they cross or touch, or the two ends of what they
+        share, in the coordinates of the features, each number rounded to a
+        float. Else the first point of the ring, as given, or nothing where
+        it has none.
+    starts : tuple of (x, y)
+        For ``Fault.CONTACT``, the points from which the two edges lead, as
+        given. Empty for other kinds.
     """
 
     kind: Fault
@@ -52,12 +56,14 @@ class FeatureFault:
     other: Optional[int]
     edges: Optional[Tuple[int, int]]
     points: Tuple[Coordinates, ...]
+    starts: Tuple[Coordinates, ...] = ()
 
     def __str__(self) -> str:
         return f"polygon {self.polygon}, ring {self.ring}: {self._words()}"
 
     def _words(self) -> str:
-        places = [f"({shown(x)}, {shown(y)})" for x, y in self.points]
+        places = [f"({shown(x)}, {shown(y)})"
+                  for x, y in self.starts or self.points]
         if self.edges:
             first, second = self.edges
             ring = "" if self.other == self.ring else f" of ring {self.other}"
@@ -85,20 +91,18 @@ def _row(features: Features, row: int) -> _Row:
     return _Row(place.ring, place.point, (x, y))
 
 
-def _contact(features: Features, polygon: int, first: int,
-             second: int) -> FeatureFault:
+def _contact(features: Features, polygon: int, first: int, second: int,
+             points: Tuple[Coordinates, ...]) -> FeatureFault:
     """The fault of two edges, which lead from these rows."""
     one, other = _row(features, first), _row(features, second)
     return FeatureFault(Fault.CONTACT, polygon, one.ring, other.ring,
-                        (one.point, other.point),
+                        (one.point, other.point), points,
                         (one.coordinates, other.coordinates))
 
 
-def _fault(features: Features, polygon: int, kind: Fault, first: int,
-           second: int) -> FeatureFault:
-    """The fault of a polygon, by its place in the feature."""
-    if kind == Fault.CONTACT:
-        return _contact(features, polygon, first, second)
+def _of_ring(features: Features, polygon: int, kind: Fault, first: int,
+             second: int) -> FeatureFault:
+    """The fault of a ring, or of two of which one is within the other."""
     start, end = features.polygons.ring_offsets[first:first + 2].tolist()
     points: Array = features.polygons.points[start:min(start + 1, end)]
     other = (features.ring_place(second)[2] if kind == Fault.HOLE_WITHIN
@@ -107,12 +111,13 @@ def _fault(features: Features, polygon: int, kind: Fault, first: int,
                         None, tuple((x, y) for x, y in points.tolist()))
 
 
-def faults_of(given: Checked, whole: Checked,
+def faults_of(given: Checked, whole: Checked, grid: Grid,
               threads: int = 1) -> list[Optional[FeatureFault]]:
-    """The first fault of each feature, in the coordinates as given."""
+    """The first fault of each feature, which the grid has as ``whole``."""
     faults = find_faults(
         GivenPolygons(rings_of(whole), whole.polygons.polygon_offsets),
         threads)
+    met = meetings(whole, faults, grid)
     found: list[Optional[FeatureFault]] = [None] * len(whole.are_multi)
     for place in np.flatnonzero(faults["kind"])[::-1].tolist():
         # Of several faults of a feature the first one is set last.
@@ -120,13 +125,17 @@ def faults_of(given: Checked, whole: Checked,
         feature = int(np.searchsorted(whole.feature_offsets, place,
                                       side="right")) - 1
         polygon = place - int(whole.feature_offsets[feature])
-        found[feature] = _fault(given, polygon, Fault(kind), first, second)
+        found[feature] = (
+            _contact(given, polygon, first, second, met[place])
+            if kind == Fault.CONTACT
+            else _of_ring(given, polygon, Fault(kind), first, second))
     return found
 
 
 def _explained(features: Checked, grid: Grid,
                threads: int) -> list[Optional[FeatureFault]]:
-    return faults_of(features, rounded_features(features, grid), threads)
+    return faults_of(features, rounded_features(features, grid), grid,
+                     threads)
 
 
 def _explained_series(series: Any, grid: Grid, others: str,
