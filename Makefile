@@ -108,7 +108,8 @@ install-c: c
 	sed 's|@PREFIX@|$(PREFIX)|; s|@INCLUDEDIR@|$(INCLUDEDIR)|; s|@LIBDIR@|$(LIBDIR)|' $(C_OUT)/i_shape.pc.in > "$(TO_LIB)/pkgconfig/i_shape.pc"
 	install -m 644 bindings/c/cmake/*.cmake $(C_OUT)/i_shape-config-version.cmake "$(TO_LIB)/cmake/i_shape"
 	sed "s|@HEADERS@|$$(realpath -ms --relative-to='$(LIBDIR)' '$(INCLUDEDIR)')|" bindings/c/cmake/i_shape-config.cmake.in > "$(TO_LIB)/cmake/i_shape/i_shape-config.cmake"
-	chmod 644 "$(TO_LIB)/libi_shape.so" "$(TO_LIB)/pkgconfig/i_shape.pc" "$(TO_LIB)/cmake/i_shape/i_shape-config.cmake"
+	chmod 755 "$(TO_LIB)/libi_shape.so"
+	chmod 644 "$(TO_LIB)/pkgconfig/i_shape.pc" "$(TO_LIB)/cmake/i_shape/i_shape-config.cmake"
 
 # Removes what install has put there, by the same words; of the shared library each version.
 uninstall: uninstall-program uninstall-c

@@ -3,7 +3,7 @@
 # what is built, installed and found by CMake; and the programs of the pages. With --quick by one compiler, and under neither of the tools.
 . "$(dirname "$0")/part.sh" || exit 1
 library=bindings/c/out
-archive=crates/i_shape_c/out/libi_shape_c.a
+archive=crates/i_shape_c_calls/out/libi_shape_c_calls.a
 c=("${CC:-cc}" -std=c11)
 
 # The names that the libraries export are those that the header declares.
@@ -47,6 +47,14 @@ test_rejected_points() {
         ! "${CXX:-c++}" -std=c++17 -Iinclude "-DREJECTED=$number" -fsyntax-only bindings/c/rejected.cpp 2> "$work/log" && grep -qF "$words" "$work/log"
         count $? "the point $number of rejected.cpp: $words"
     done < <(sed -nE 's|^#(el)?if REJECTED == ([0-9]+) /\* (.*) \*/$|\2 \3|p' bindings/c/rejected.cpp)
+}
+
+# Of C++14 the compiler says what i_shape.hpp needs, and nothing else.
+test_older_standard() {
+    echo '#include "i_shape.hpp"' > "$work/older.cpp"
+    ! "${CXX:-c++}" -std=c++14 -Iinclude -fsyntax-only "$work/older.cpp" 2> "$work/log" && grep -q 'error: .*needs C++17' "$work/log" &&
+        [ "$(grep -c error: "$work/log")" = 1 ]
+    count $? 'i_shape.hpp, C++14'
 }
 
 # The programs of the page and the tests of i_shape.hpp, by the compiler $1 at the level $2.
@@ -124,6 +132,7 @@ done
 if [ -z "$is_quick" ] || ! command -v clang++ > /dev/null; then test_cpp g++ -O2; fi
 if [ -z "$is_quick" ] || command -v clang++ > /dev/null; then test_cpp clang++ -O0; fi
 test_rejected_points
+test_older_standard
 test_cmake
 test_install
 tests=("${c[@]}" bindings/c/test.c)

@@ -1,6 +1,7 @@
 #!/usr/bin/env bash
 # Packs what a release holds, by scripts/dist.sh, and tries each archive as someone who has nothing else of the project: unpacked into an empty folder, with
-# no rt on the path. How long the first sample of each takes is told. Packed again in another time zone, and as another user, where a namespace can be made for that, each has the same bytes.
+# no rt on the path. Prints how long the first sample of each takes. Packed again in another time zone, and, where a namespace can be made, as another user,
+# each archive has the same bytes.
 . "$(dirname "$0")/part.sh" || exit 1
 top=$PWD
 empty="$work/an empty folder"
@@ -27,68 +28,71 @@ timed() {
 
 is_packed() { [[ " ${parts[*]} " == *" $1 "* ]]; }
 
-# Packs the part $1 too, if the script $2 has built, or builds, what is for the machine $3, and the default that it is built over.
+# Plans to pack the part $1, if the script $2 has built, or can build, the default and then what is for the machine $3.
 plan_for() {
     local words=(--cpu x86-64)
-    [ "$3" = x86_64 ] || { words=(--target aarch64) && has "$1" aarch64-linux-gnu-gcc; } &&
-        has_built "$1" "$2" && has_built "$1" "$2" "${words[@]}" && parts+=("$1")
+    if [ "$3" = aarch64 ]; then
+        words=(--target aarch64)
+        has "$1" aarch64-linux-gnu-gcc || return
+    fi
+    has_built "$1" "$2" && has_built "$1" "$2" "${words[@]}" && parts+=("$1")
 }
 
 # Goes into an empty folder, whose name has a space.
 go_to_empty() { rm -rf "$empty" && mkdir "$empty" && cd "$empty" || exit; }
 
-# Unpacks the archive $2, of which $1 and the words from $3 on are the part and its files, into an empty folder, and goes into it.
+# Unpacks the archive $2 of the part $1 into an empty folder, and goes into it. The words from $3 on are the files that it must have.
 unpack() {
     go_to_empty
     tar -xzf "$work/dist/$2" && cd ./*/ || { count 1 "$1: unpacked" && return 1; }
     check "$1: its files" diff <(printf '%s\n' "${@:3}" | sort) <(find . -type f,l | sed 's|^\./||' | sort)
 }
 
-# The program that the words from $2 on compile prints the corners, run by the words of the array runner.
+# The program that the command from $2 on compiles prints the corners, run with the command in the array runner.
 prints_corners() {
     "${@:2}" -o "$work/program" > "$work/log" 2>&1 || cat "$work/log"
     prints "$1" "$corners" "${runner[@]}" "$work/program"
     rm -f "$work/program"
 }
 
-# Whether the library or program $1 asks only for what libc.so.6 has had since glibc 2.$2, looks for it nowhere else, and wants no stack that is executed.
+# Whether the library or program $1 needs only libc.so.6, of glibc 2.$2 or later, sets no path to look for it, and has no executable stack.
 needs_glibc() {
     [ "$(readelf -dW "$1" | sed -nE 's/.*\((NEEDED|RPATH|RUNPATH)\).*\[(.*)\]/\1 \2/p')" = 'NEEDED libc.so.6' ] &&
         ! readelf --dyn-syms -W "$1" | awk -v most="$2" '$7 == "UND" && $8 != "" && ($5 != "WEAK" || $8 ~ /@/) && !(split($8, parts, /@GLIBC_2[.]/) == 2 &&
             parts[2] + 0 <= most) { print $8 }' | grep . && readelf -lW "$1" | grep -qE 'GNU_STACK .* RW +[0-9a-fx]+$'
 }
 
-# Whether the library or program $1 binds all names at its start, has a build-id, and neither a table of symbols besides those it needs nor, as a library, the right
-# to be executed.
+# Whether the library or program $1 binds all names at its start, has a build-id, and has no symbols but the dynamic ones. rpm looks only into an executable
+# library.
 is_hardened() {
     readelf -dW "$1" | grep -qE '\(FLAGS_1\).*NOW' && readelf -lW "$1" | grep -q GNU_RELRO && readelf -nW "$1" | grep -q 'Build ID: ' &&
-        ! readelf -SW "$1" | grep -q ' \.symtab ' && { [[ $1 != *.so* ]] || [ "$(stat -Lc %a "$1")" = 644 ]; }
+        ! readelf -SW "$1" | grep -q ' \.symtab ' && { [[ $1 != *.so* ]] || [ "$(stat -Lc %a "$1")" = 755 ]; }
 }
 
-# PROOF, or the file $2, is of the crate $1, and of the sources and the files whose sums it has.
-is_of() {
+# Whether PROOF, or the file $2, is about the crate $1, and has the sums of the sources and files that are here.
+is_proof_of() {
     local file=${2-PROOF} name sum
     [ "$(head -n 1 "$file")" = "crate $1" ] && grep -q "^sources $1 " "$file" || return
     while read -r name sum; do
-        [ "$(cd "$top/crates/$name" && find src specs proofs -type f 2> /dev/null | sort | xargs sha256sum | sha256sum)" = "$sum  -" ] || return
+        [ "$(cd "$top/crates/$name" && find ../../crates.txt ../../HANDLES src specs proofs -type f 2> /dev/null | sort | xargs sha256sum | sha256sum)" = "$sum  -" ] || return
     done < <(sed -n 's/^sources //p' "$file")
     grep -q '^file ' "$file" && sha256sum --quiet -c <(sed -nE 's/^file (.*) ([0-9a-f]+)$/\2  \1/p' "$file")
 }
 
 # Each function that the header declares was proved, and so was the whole, for the machine $1.
 is_proved() {
-    is_of i_shape_c && diff <(declared) <(sed -nE 's/^fn .*::(i_shape_[a-z0-9_]+): proved$/\1/p' PROOF | sort) && grep -q '^fn .*: proved$' PROOF &&
+    is_proof_of i_shape_c_calls && diff <(declared) <(sed -nE 's/^fn .*::(i_shape_[a-z0-9_]+): proved$/\1/p' PROOF | sort) && grep -q '^fn .*: proved$' PROOF &&
         grep -q "^logic=proved .* target=$1-unknown-linux-gnu " PROOF && ! grep -q cpu= PROOF
 }
 
 loads_faster() { grep -q sse4_2 /proc/cpuinfo && ldd --version | grep -qE ' 2\.(3[3-9]|[4-9][0-9])$'; }
 
-# The library that x86-64 has besides, and the words of the loader that it is taken.
+# The archive for x86-64 has a second library, for x86-64-v2, with a proof of its own. The loader takes it where it can.
 test_faster() {
     local its=lib/glibc-hwcaps/x86-64-v2/libi_shape.so.$soname
     needs_glibc "$its" 17 && grep -q '^logic=proved .* cpu=x86-64-v2 ' PROOF.x86-64-v2
     count $? 'linux-x86_64: the library for x86-64-v2, and its proof'
-    check 'linux-x86_64: what the second proof is of' is_of i_shape_c PROOF.x86-64-v2
+    check 'linux-x86_64: what the second proof is of' is_proof_of i_shape_c_calls PROOF.x86-64-v2
     check 'linux-x86_64: each proof is of one crate' diff <(printf '%s\n' PROOF:1 PROOF.x86-64-v2:1) <(grep -c '^logic=' PROOF*)
     check 'linux-x86_64: the functions of both proofs' diff <(grep '^fn ' PROOF) <(grep '^fn ' PROOF.x86-64-v2)
     check 'linux-x86_64: how the library for x86-64-v2 is hardened' is_hardened "$its"
@@ -215,19 +219,19 @@ test_aarch64() {
     add 'linux-aarch64: make check' "${runner[@]}" check/hashes -c check/hashes.txt
 }
 
-# The program for the machine $1 prints the corners, by the command of its page. It is run by the words from $2 on.
+# The program for the machine $1 prints the corners, as the command on its page does. The words from $2 on run it.
 test_program() {
     unpack "program-$1" "i_shape_tool-$version-linux-$1.tar.gz" LICENSE NOTICE PROOF README.md bin/i_shape_tool share/man/man1/i_shape_tool.1 || return
     check "program-$1: the version of its man page" grep -q "i_shape_tool $version\"" share/man/man1/i_shape_tool.1
     check "program-$1: what it asks for" needs_glibc bin/i_shape_tool 34
     check "program-$1: it binds all names at its start" bash -c 'readelf -dW bin/i_shape_tool | grep -qE "\(FLAGS_1\).*NOW"'
-    check "program-$1: what its proof is of" is_of i_shape_tool_main
+    check "program-$1: what its proof is of" is_proof_of i_shape_tool_main
     check "program-$1: what the kit said of the proof" grep -q "^logic=proved .* target=$1-unknown-linux-gnu " PROOF
     has "program-$1: its answer" "$2" || return
     timed "program-$1: its answer" prints "program-$1: its answer" '0 0 4 0 4 4 0 4' "${@:2}" bin/i_shape_tool simplify < <(echo 0 0 2 0 4 0 4 4 0 4)
 }
 
-# The wheel for the machine $1 says so in its name and within, and holds the library of the archive.
+# The name and the metadata of the wheel for the machine $1 have that machine, and the wheel holds the libraries of the archive, of which its PROOFs are.
 test_wheel() {
     go_to_empty
     "$python" -m zipfile -e "$work/dist/i_shape-$version-py3-none-manylinux_2_17_$1.whl" . && grep -qx "Tag: py3-none-manylinux_2_17_$1" i_shape-*.dist-info/WHEEL &&
@@ -236,11 +240,13 @@ test_wheel() {
     count $? "wheel-$1: its tag and files"
     check "wheel-$1: what its library asks for" needs_glibc i_shape/libi_shape.so 17
     [ "$1" = x86_64 ] || return
-    needs_glibc i_shape/libi_shape-v2.so 17 && ! cmp -s i_shape/libi_shape-v2.so i_shape/libi_shape.so
+    needs_glibc i_shape/libi_shape-v2.so 17 && ! cmp -s i_shape/libi_shape-v2.so i_shape/libi_shape.so &&
+        tar -xzOf "$work/dist/i_shape-$version-linux-$1.tar.gz" "i_shape-$version-linux-$1/lib/glibc-hwcaps/x86-64-v2/libi_shape.so.$version" |
+        cmp - i_shape/libi_shape-v2.so
     count $? 'wheel-x86_64: the library for x86-64-v2'
 }
 
-# What the page of the package shows is what the Python $1 prints, which has installed it.
+# The Python $1, which has the package installed, prints what the samples on the package's page show.
 shows_page() {
     "$1" - << 'PROGRAM'
 import doctest, importlib.metadata, re
@@ -270,7 +276,7 @@ PROGRAM
     count $? 'wheel-aarch64: rejected on x86_64'
 }
 
-# The sample of the package's page in the language $1, or the one of these that has the word $2.
+# Prints the first sample in the language $1 on the package's page, or the first of these with the word $2.
 sample_of() {
     awk -v RS='\n```\n' -v opening="(^|\n)\`\`\`$1\n" -v word="${2-}" 'match($0, opening) && index($0, word) { print substr($0, RSTART + RLENGTH); exit }' node_modules/i_shape/README.md
 }
@@ -286,7 +292,7 @@ test_size() {
     count $? 'javascript: the size of the module, as its page says'
 }
 
-# What the page of the package shows runs where the package lies as one that was installed.
+# The samples on the package's page run where the package lies as if it were installed.
 test_javascript() {
     local chromium=$top/bindings/js/test/support/chromium.js has_chromium='process.exit((await import(process.argv[1])).noChromium ? 1 : 0)'
     unpack javascript "i_shape-$version-javascript.tgz" LICENSE NOTICE README.md out/i_shape32.wasm package.json src/{arrays,contacts,errors,faults,geojson,i_shape,loading,memory,options}.js \
@@ -335,6 +341,16 @@ test_rust() {
     add 'the crate for Rust' test_crate
 }
 
+# Whether the shared library in the folder $1 is executable, and the static one holds no code of LLVM.
+are_as_expected() { [ "$(stat -Lc %a "$1/libi_shape.so")" = 755 ] && ! grep -q '[.]llvmbc' <(readelf -SW "$1/libi_shape.a"); }
+
+# The flags that pkg-config gives to a system with the prefix $2 and the libraries in the folder $3 of it, installed below $1.
+flags_in_system() {
+    local flags
+    flags=$(PKG_CONFIG_PATH=$1$2/$3/pkgconfig PKG_CONFIG_SYSTEM_INCLUDE_PATH=$2/include PKG_CONFIG_SYSTEM_LIBRARY_PATH=$2/$3 pkg-config --cflags --libs i_shape)
+    echo $flags
+}
+
 # The archive of the C library in source. Cargo builds it once, for the sample of its page; the other builds take what that has built.
 test_c() {
     local archive=i_shape-$version-c.tar.gz erased command folder prefix=$work/prefix root=$work/root
@@ -354,12 +370,17 @@ test_c() {
     check 'c: what is installed' diff <(printf '%s\n' include/i_shape.{h,hpp} $folder/{libi_shape.{a,so{,."$soname",."$version"}},pkgconfig/i_shape.pc} share/doc/i_shape/{LICENSE,NOTICE,README.md} \
         $folder/cmake/i_shape/i_shape-{config,config-version,files,targets}.cmake | sort) <(cd "$root$prefix" && find . -type f,l | sed 's|^\./||' | sort)
     check 'c: ctest' ctest --test-dir build --no-tests=error
+    mv "build/lib/libi_shape.so.$soname" . && check 'c: ctest, where the shared library is gone' fails ctest --test-dir build
+    mv "libi_shape.so.$soname" build/lib
+    check 'c: its libraries' are_as_expected "$root$prefix/$folder"
     check "c: its library's name" grep -q "SONAME.*\[libi_shape.so.$soname\]" <(readelf -dW "$root$prefix/$folder/libi_shape.so")
     cmake -S sample/consumer -B installed "-DCMAKE_PREFIX_PATH=$root$prefix" -DI_SHAPE_VERSION="$version" > "$work/log" 2>&1 && cmake --build installed >> "$work/log" 2>&1 || cat "$work/log"
     prints 'c: find_package, the static library' "$corners" installed/static_in_c
     prints 'c: find_package, the shared library' "$corners" installed/shared_in_cpp
-    "${CC:-cc}" sample/sample.c $(PKG_CONFIG_PATH="$root$prefix/$folder/pkgconfig" pkg-config --cflags --libs i_shape) -o corners/by_pkg_config > "$work/log" 2>&1 || cat "$work/log"
+    "${CC:-cc}" sample/sample.c $(PKG_CONFIG_SYSROOT_DIR=$root PKG_CONFIG_PATH="$root$prefix/$folder/pkgconfig" pkg-config --cflags --libs i_shape) \
+        -o corners/by_pkg_config > "$work/log" 2>&1 || cat "$work/log"
     prints 'c: pkg-config' "$corners" env LD_LIBRARY_PATH="$root$prefix/$folder" corners/by_pkg_config
+    prints 'c: pkg-config, for folders of a system' -li_shape flags_in_system "$root" "$prefix" $folder
     DESTDIR=$root cmake --build build --target uninstall > "$work/log" 2>&1 && [ -z "$(find "$root" ! -type d)" ]
     count $? 'c: what is installed is removed'
     check 'c: FetchContent' cmake -S sample/consumer -B fetched "-DI_SHAPE_ARCHIVE=$work/dist/$archive"
@@ -442,6 +463,11 @@ test_source() {
     check 'source: definitions, examples and measurements' ls COMMIT NOTICE SECURITY.md crates/i_shape_{core,laws,contacts}/specs/Lib.antt examples/theorem.py bench/run.sh
     check 'source: it is released' fails grep -qi 'not released yet' CHANGELOG.md README.md
     prints 'source: its program, by cargo' '0 0 4 0 4 4 0 4' ./i_shape_tool simplify < <(echo 0 0 2 0 4 0 4 4 0 4)
+    check 'source: packed from itself' bash -c 'env -u SOURCE_DATE_EPOCH bash scripts/dist.sh ../own source && cmp "../own/$1" "$2/$1"' . \
+        "i_shape-$version-source.tar.gz" "$work/dist"
+    mv COMMIT ..
+    ! env -u SOURCE_DATE_EPOCH bash scripts/dist.sh ../none source > "$work/log" 2>&1 && grep -q 'set SOURCE_DATE_EPOCH' "$work/log"
+    count $? 'source: without a commit'
     is_packed rust || return
     mkdir ../rust && tar -xzf "$work/dist/i_shape-$version-rust.tar.gz" -C ../rust --strip-components=1
     check 'source: the Rust without contracts' diff -r --exclude=mod.rs ../rust/src/erased erased
@@ -460,16 +486,18 @@ PROGRAM
 
 # The pages of a release say that it is one, and name no folder of a clone for what an archive has.
 test_site() {
-    local sample
+    local part
     go_to_empty
     tar -xzf "$work/dist/i_shape-$version-site.tar.gz" && cd ./*/ || { count 1 'site: unpacked' && return 1; }
     check 'site: it is released' fails grep -rliE 'not released yet' .
     check 'site: its first page' test -s index.html
+    check 'site: the calls of C++' grep -q 'simplify_contours' cpp.html
     check 'site: it names no folder in which it was built' fails grep -rlF "$top" .
-    # the page of C names the samples that the archive of the library has
-    is_packed linux-x86_64 || return
-    for sample in $(grep -oE 'sample/[a-z]+\.(c|cpp)' docs/C.html | sort -u); do
-        check "site: $sample, which it names, is in the archive" grep -qx "i_shape-$version-linux-x86_64/$sample" <(tar -tzf "$work/dist/i_shape-$version-linux-x86_64.tar.gz")
+    # the archives of the library have the samples that the pages of C and C++ compile, except that over Clipper
+    for part in linux-x86_64 c; do
+        is_packed $part || continue
+        check "site: the samples of its pages are in the archive of $part" diff <(grep -ohE '(bindings/c|examples)/[a-z]+\.(c|cpp)' docs/{C,CPP}.html |
+            sed 's|.*/|sample/|; /clipper/d' | sort -u) <(tar -tzf "$work/dist/i_shape-$version-$part.tar.gz" | sed -nE 's,^[^/]*/(sample/[a-z]+\.(c|cpp))$,\1,p' | sort)
     done
 }
 

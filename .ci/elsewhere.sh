@@ -1,7 +1,7 @@
 #!/usr/bin/env bash
-# Runs the tests of the C library for other processors and systems, and under the thread sanitizer. Of a thousand texts the program for aarch64 prints the bytes of
-# the one for x86-64, and builds by two compilers, for two processors, and for Windows return the same of random calls. The library that cargo builds is tested where
-# bytes lie the other way round, at 32 bits, and for Windows.
+# Runs the tests of the C library for other processors and systems, and under the thread sanitizer. For a thousand texts, the program for aarch64 must print the
+# bytes that the one for x86-64 prints. For random calls, builds by two compilers, for two processors, and for Windows must return the same. The library that cargo
+# builds is tested on a big-endian machine, at 32 bits, and for Windows.
 . "$(dirname "$0")/part.sh" || exit 1
 trap end EXIT
 export WINEPREFIX=$work/wine
@@ -33,7 +33,7 @@ test_aarch64() {
     has 'aarch64, C++17' aarch64-linux-gnu-g++ && test_as 'aarch64, C++17' aarch64-linux-gnu-g++ -std=c++17 -x c++ $tests -x none $library/libi_shape.a
 }
 
-# On a processor that lacks the SSE4.2 of x86-64-v2, so that the default library is no good there.
+# Runs the tests on a processor without the SSE4.2 of x86-64-v2, on which the default library can't run.
 test_old_processor() {
     local library=bindings/c/out/x86-64 c=("${CC:-cc}" -std=c11)
     has x86-64 qemu-x86_64 && has_built x86-64 $build --cpu x86-64 || return
@@ -47,14 +47,14 @@ test_old_processor() {
 
 test_musl() { runner=() && has musl musl-gcc && test_archive musl bindings/c/out/libi_shape.a musl-gcc -std=c11 -static; }
 
-# It sees what the tests and the allocator do, and not the library's own accesses, which no compiler has marked for it.
+# The sanitizer sees what the tests and the allocator do, but not the library's own accesses: no compiler has instrumented these.
 test_thread_sanitizer() {
     runner=()
     needs 'the thread sanitizer' 'the compiler has none that runs here' compiles_with -fsanitize=thread &&
         test_as 'thread sanitizer' "${CC:-cc}" -std=c11 -fsanitize=thread $tests bindings/c/allocator.c bindings/c/out/libi_shape.a
 }
 
-# The same calls by another compiler, and for another processor, answer the same as the default's.
+# Builds by another compiler, and for another processor, return what the default build returns.
 test_builds() {
     has_built 'two builds' $build --backend rattle && has_built 'two builds' $build --cpu x86-64 || return
     "${CXX:-c++}" -std=c++17 -O1 "${warnings[@]}" -Iinclude bindings/c/compare.cpp -o "$work/compare" -ldl
@@ -62,7 +62,8 @@ test_builds() {
     check 'the builds for x86-64-v2 and for each x86-64' "$work/compare" 5000 bindings/c/out/{,x86-64/}libi_shape.so
 }
 
-# The program does with each text, and with what is no command, as the one for x86-64 does: both streams, and the status. A fifth of the texts have a fault.
+# For each text, and for words that are no command, the program for aarch64 writes the same to both streams as the one for x86-64, and ends with the same status.
+# A fifth of the texts have a fault.
 test_program() {
     has_aarch64 'the program for aarch64' && has_built 'the program for aarch64' scripts/program/build.sh --target aarch64 || return
     add 'the program for aarch64' "$python" - $of_aarch64 << 'PROGRAM'
@@ -98,7 +99,7 @@ PROGRAM
 
 by_wine() { (cd "$work" && set -o pipefail && wine "$1.exe" "${@:2}" 2> /dev/null | tr -d '\r'); }
 
-# The answers of the library $2 to random contours at each width, into the folder $1, by a program that the words from $3 on compile.
+# Writes what the library $2 returns for random contours, at each width, into the folder $1. The words from $3 on compile the program that calls it.
 answer_contours() {
     local bits
     mkdir "$1"
@@ -128,16 +129,18 @@ PROGRAM
     count $? 'Windows: the answers to random contours'
 }
 
-# The words from $2 on, in the workspace, where cargo takes the compiler $1, of Debian, and a folder of its own.
+# Runs the words from $2 on in the workspace. Cargo uses the compiler $1, of Debian, and builds in a folder of its own.
 by_debian() { (cd rust && export RUSTC=$1 CARGO_PROFILE_DEV_DEBUG=0 CARGO_TARGET_DIR=target/elsewhere && "${@:2}"); }
 
-# Cargo builds a package for the target $1 by the words from $2 on, and Rust's core and alloc for it, of Debian's sources. Sums that overflow would abort.
+# Runs cargo with the words from $2 on, for the target $1. It also builds Rust's core and alloc for that target, from Debian's sources. Sums that overflow
+# would abort.
 build_for() {
     RUSTC_BOOTSTRAP=1 by_debian /usr/bin/rustc nice -n 5 cargo --offline --config 'source.crates-io.replace-with="debian"' --config "source.debian.directory='$rust_library/vendor'" \
         --config profile.dev.package.i_shape_c_library.opt-level=1 "${@:2}" -Zbuild-std=core,alloc --locked --quiet --target "$1"
 }
 
-# The library that cargo builds for the target $2 returns what is recorded. The C compiler $3 links it, and the words of the array runner run it, by the program $4.
+# The library that cargo builds for the target $2 returns what is recorded. The C compiler $3 links the test, and the command in the array runner runs it: its
+# program is $4.
 test_target_hashes() {
     name="cargo for $1" library=$PWD/rust/target/elsewhere/$2/debug/libi_shape.a c=("$3" -std=c11 -static)
     has "$name" "$3" "$4" || return
@@ -151,12 +154,12 @@ test_target() {
     local name library c
     test_target_hashes "$@" || return
     test_as "$name" "${c[@]}" $tests "$library"
-    # a program brings its own allocator where names can be weak
+    # a program can bring its own allocator only where names can be weak
     [[ $2 = *windows* ]] || test_as "$name, each growth failing" "${c[@]}" -DOWN_ALLOCATOR $tests "$library"
 }
 
-# Where bytes lie the other way round, at 32 bits, and without weak names all tests run, elsewhere the hashes alone. For a target without a system the crate for Rust
-# compiles.
+# All tests run on a big-endian machine, at 32 bits, and where names can't be weak; elsewhere only the hashes. For a target without an operating system, the crate
+# for Rust must compile.
 test_targets() {
     local name library c rust_library=/usr/lib/rustlib/src/rust/library
     needs 'cargo for other targets' "Debian's rustc-web and rust-web-src aren't installed" dpkg -s rustc-web rust-web-src &&

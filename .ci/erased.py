@@ -104,7 +104,7 @@ def past(words, at):
 
 
 def code(words):
-    """The words without ghost items, clauses, laws, imports, and the attributes that Rust lacks."""
+    """The words without ghost items, clauses, laws, imports, and attributes that only one of the two texts has."""
     left, at, head, has_clause = [], 0, 0, False
     while at < len(words):
         word, next_word = words[at], words[at + 1] if at + 1 < len(words) else ""
@@ -115,7 +115,7 @@ def code(words):
             at += 1
         elif word in ("requires", "ensures"):
             at, has_clause = past(words, words.index("{", at)), True
-        elif word == "#" and is_lacked(words[at + 1 + (next_word == "!"):]):
+        elif word == "#" and is_of_one_text(words[at + 1 + (next_word == "!"):]):
             at = past(words, at + 1 + (next_word == "!"))
         elif word == "use" and (not left or left[-1] in ("}", ";", "]", "{", "pub") or left[-4:] == OF_CRATE):
             left = without_visibility(left)
@@ -134,7 +134,8 @@ def code(words):
     return left
 
 
-def is_lacked(words):
+def is_of_one_text(words):
+    """Whether the words begin an attribute that only the source or only the Rust has."""
     return words[:2] == ["[", "tactic"] or words[:4] == ["[", "unsafe", "(", "no_mangle"] or words[:2] in (["[", "no_std"], ["[", "macro_use"])
 
 
@@ -175,7 +176,7 @@ def text_of_source(text, crate, has_module):
     text = re.sub(r"(# \[ test \] fn \w+ \() (\w+) : HostRuntime (?:, )?(\)[^{;]*\{)", r"\1 \3 let \2 = crate :: host :: HostRuntime :: new ( ) ;", text)
     text = re.sub(r"# \[ macro_export \] macro_rules ! (\w+)", r"macro_rules ! \1_macro", text)
     # of a library for C the modules are public
-    public = "pub " if crate.endswith("_c") else ""
+    public = "pub " if crate.endswith("_c_calls") else ""
     text = re.sub(r" (# \[ cfg \( test \) \] )?(pub )?mod (\w+) ;",
                   lambda found: f" {found[1] or ''}{public or found[2] or ''}mod {found[3]} ;" if has_module(found[3]) else "", text)
     return text.split()

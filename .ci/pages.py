@@ -31,6 +31,7 @@ PAGES = ["README.md", "CHANGELOG.md", "docs/*.md", "docs/develop/*.md", "example
 RUST = ["crates/*/src/**/*.rt", "rust/**/*.rs", "examples/**/*.rs", "bench/**/*.rs"]
 C = ["bindings/c/*.c", "bindings/c/*.cpp", "bindings/c/*.h", "examples/**/*.c", "bench/**/*.c", "include/*.h", "include/*.hpp"]
 JAVASCRIPT = ["bindings/js/*.js", "examples/*.mjs"]
+CARGO = "cargo metadata --offline --no-deps --format-version 1 --manifest-path rust/Cargo.toml"
 # What shows that something is there, and what is said where it isn't.
 NEEDED = {
     **{name: (f"{name} --version", f"there is no {name}") for name in ("rt", "parallel", "pkg-config")},
@@ -38,9 +39,9 @@ NEEDED = {
     # what the three libraries have kept of their proofs, or the C library that was built from it, is newer than they are
     "proof": ("""rt version && test -d crates/i_shape/out/rlib && test -z "$(find crates/i_shape_core crates/i_shape_source crates/i_shape \\
         -name out -prune -o \\( -name '*.rt' -o -name '*.antt' \\) \\
-        -newer "$(ls -t crates/i_shape/out/rlib/stamp crates/i_shape_c/out/libi_shape_c.a 2> /dev/null | head -n 1)" -print -quit)\"""",
+        -newer "$(ls -t crates/i_shape/out/rlib/stamp crates/i_shape_c_calls/out/libi_shape_c_calls.a 2> /dev/null | head -n 1)" -print -quit)\"""",
               "there is no rt, or the libraries aren't proved"),
-    "program": ("bash scripts/program/build.sh --is-built", "the program isn't built"),
+    "program": (f"bash scripts/program/build.sh --is-built || {CARGO}", "the program isn't built, and there is no cargo from 1.85 on"),
     "library": ("bash bindings/c/build.sh --is-built", "the C library isn't built"),
     "wasm": ("bash bindings/js/build.sh --is-built", "the WebAssembly module isn't built"),
     "node": ("node -e 'process.exit(parseInt(process.versions.node) < 20 ? 1 : 0)'", "there is no Node from 20 on"),
@@ -49,7 +50,7 @@ NEEDED = {
     "postgres": ("test -n \"$PGHOST\" && psql -Atc 'SELECT 1' && test -w \"$(pg_config --sharedir)/extension\"", "there is no server of PostgreSQL to install into"),
     "sqlite": ("sqlite3 --version && test -e /usr/include/sqlite3ext.h", "there is no sqlite3, or no sqlite3ext.h"),
     "gdal": ("ogr2ogr --version", "there is no GDAL"),
-    "cargo": ("cargo metadata --offline --no-deps --format-version 1 --manifest-path rust/Cargo.toml", "there is no cargo from 1.85 on"),
+    "cargo": (CARGO, "there is no cargo from 1.85 on"),
 }
 LONGEST = 600  # seconds that a command of a page may take
 LEFT_OUT = re.compile(r"\s*(///|//!|#!?\[|ensures\b|↔|×)|\s*$")
@@ -206,7 +207,7 @@ def fault_of_version():
 
 def fault_of_gate():
     """Each part of the gate has an item in docs/develop/README.md, and each script of an item is a part."""
-    gate = {command.removeprefix("python3 ").split()[0] for command in parts.BEFORE_PROOFS + parts.AFTER_PROOFS}
+    gate = {command.removeprefix("python3 ").split()[0] for command in parts.WITHOUT_PROOFS + parts.AFTER_PROOFS}
     shown = set(re.findall(r"^- \*\*.*?\*\*, `(\S+?)(?: [^`]*)?`", read(f"{TOP}/docs/develop/README.md"), re.MULTILINE))
     missing = [f"{name} has no item" for name in gate - shown] + [f"{name} is no part" for name in shown - gate if name.endswith(".sh")]
     return "; ".join(sorted(missing)) or None

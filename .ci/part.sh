@@ -101,20 +101,20 @@ compiles_with() { { echo 'int main(void) { return 0; }' | "${CC:-cc}" -x c "$@" 
 
 compile_and_run() { "$1" -O1 -g "${warnings[@]}" -Iinclude -pthread -o "$work/tests" "${@:2}" "${plain[@]}" && "${runner[@]}" "$work/tests"; }
 
-# Compiles the tests $1 of the C library by the words from $2 on, and runs them by the words of the array runner.
+# Compiles the tests $1 of the C library with the command from $2 on, and runs them with the command in the array runner.
 test_as() {
     echo "$1"
     add "$1" compile_and_run "${@:2}"
 }
 
-# Compares the answers of the library $1 with those that are recorded, by a program that the words from $2 on compile, and that the words of the array runner run.
+# Compares what the library $1 returns with what is recorded. The command from $2 on compiles the program that compares, and the one in the array runner runs it.
 compare_hashes() {
     "${@:2}" -std=c11 -O2 "${warnings[@]}" "${plain[@]}" -Iinclude bindings/c/check/hashes.c "$1" -o "$work/hashes" && "${runner[@]}" "$work/hashes" -c "$PWD/bindings/c/check/hashes.txt"
 }
 
 test_hashes() { add "$1, the hashes of its answers" compare_hashes "${@:2}"; }
 
-# The tests of C and C++ over the archive $2 under the address sanitizer and valgrind. $1 comes before their names. Their allocators are other than the archive's.
+# Runs the tests of C and C++ over the archive $2 under the address sanitizer and valgrind, with other allocators than the archive's. $1 comes before their names.
 test_hardened() {
     local tests=("${CC:-cc}" -std=c11 bindings/c/test.c) runner=() sanitizers=(-fsanitize=address,undefined -fno-sanitize-recover=undefined)
     if needs "$1address sanitizer" 'the compiler has none that runs here' compiles_with "${sanitizers[@]}"; then
@@ -129,20 +129,20 @@ test_hardened() {
     fi
 }
 
-# Compiles the program $3, which prints what the library $2 returns at the width $1, by the words from $4 on.
+# Compiles the program $3, which prints what the library $2 returns at the width $1, with the command from $4 on.
 compile_answers() {
     "${@:4}" -std=c11 -O2 -Wall -Wextra -Werror "-DWIDTH=$1" "-DWIDTH_TWICE=$((2 * $1))" -Iinclude bindings/js/test/native/answers.c "$2" -o "$3"
 }
 
-# The calls that the header declares.
+# Prints the names of the calls that the header declares.
 declared() {
     "${CC:-cc}" -E -Iinclude include/i_shape.h | grep -v '^static inline' | grep -oE '\bi_shape_[a-z0-9_]+ ?\(' | tr -d ' (' | sort
 }
 
-# What the page $1 says that the command with $2 in it prints.
+# Prints the output that the page $1 shows for the command with $2 in it.
 shown() { awk -v name="$2" '/^```$/ || /^\$ / { is_its = 0 } is_its { print } /^\$ / && index($0, name) { is_its = 1 }' "$1"; }
 
-# The tests of the crate or workspace of Rust in this folder, by the words of cargo.
+# Runs the tests of the crate or workspace in this folder. The words are those of cargo test.
 test_crate() {
     cargo test --offline --locked --quiet "$@" > "$work/told" 2>&1
     local status=$?

@@ -28,8 +28,8 @@ LEFT_OUT = shutil.ignore_patterns(".git", "out", "target", "dist", "environment"
 # The parts of the tests, in the order in which they start, two at a time: the longest first, and the pages, which show what others build, last.
 TESTS = (".ci/javascript.sh --quick", ".ci/cargo.sh --quick", ".ci/c_library.sh --quick", ".ci/python_package.sh --quick", ".ci/postgres.sh --quick",
          ".ci/sqlite.sh --quick", ".ci/scaling.sh", ".ci/pictures.sh", "python3 .ci/pages.py --quick")
-# The parts of the gate, before and after the proofs. Those after them rest on the C library, and run in two lanes once it has been tested.
-BEFORE_PROOFS = ("python3 .ci/test_ci.py", "scripts/widths.sh --check")
+# The parts of the gate that rest on no proof, and those after the proofs. The tests of the C library move what is built, so others run after them, in two lanes.
+WITHOUT_PROOFS = ("python3 .ci/test_ci.py", "scripts/widths.sh --check")
 C_LIBRARY = ".ci/c_library.sh"
 LANES = ((".ci/cargo.sh --rest", ".ci/elsewhere.sh", ".ci/sqlite.sh", ".ci/qgis.sh", ".ci/long_tests.sh"),
          (".ci/python_package.sh", ".ci/postgres.sh", ".ci/javascript.sh", ".ci/dist.sh", "python3 .ci/refusals.py", ".ci/scaling.sh", ".ci/pictures.sh",
@@ -37,8 +37,8 @@ LANES = ((".ci/cargo.sh --rest", ".ci/elsewhere.sh", ".ci/sqlite.sh", ".ci/qgis.
 AFTER_PROOFS = (C_LIBRARY, *LANES[0], *LANES[1])
 # The mutants of the core, below which there is no library, are tried beside rt ci. Those of the other crates are tried over the libraries that rt ci has
 # built, and so is the C library built, since theirs are tried over what it keeps.
-MUTANTS_OF_CORE = "nice -n 10 python3 .ci/wrong.py --lanes 1 --only i_shape_core"
-OTHER_MUTANTS = "sh -c 'python3 .ci/mark_proved.py; bash bindings/c/build.sh && exec python3 .ci/wrong.py --except i_shape_core'"
+MUTANTS_OF_CORE = "nice -n 10 python3 .ci/wrong.py --quick --lanes 1 --only i_shape_core"
+OTHER_MUTANTS = "sh -c 'python3 .ci/mark_proved.py; bash bindings/c/build.sh && exec python3 .ci/wrong.py --quick --except i_shape_core'"
 
 
 def counts_of(said, status):
@@ -160,22 +160,20 @@ def run_tests(parts):
         lane.join()
 
 
-def try_mutants_of_core(parts, copy):
+def run_beside_proofs(parts, copy):
     """In a copy of the crates, since rt ci moves what other commands keep in its checkout out of the way."""
     shutil.copytree(TOP, copy, symlinks=True, ignore=LEFT_OUT)
-    parts.run(MUTANTS_OF_CORE, copy)
+    parts.run_all((*WITHOUT_PROOFS, MUTANTS_OF_CORE), copy)
 
 
 def run_gate(parts):
     """All in a copy of the checkout, so that what is built in the checkout stays as it is."""
     checkout = f"{parts.work}/checkout"
     shutil.copytree(TOP, checkout, symlinks=True, ignore=LEFT_OUT)
-    for command in BEFORE_PROOFS:
-        parts.run(command, checkout)
-    tried = parts.beside(try_mutants_of_core, f"{parts.work}/copy")
+    beside = parts.beside(run_beside_proofs, f"{parts.work}/copy")
     parts.run("rt ci", checkout)
     parts.run(OTHER_MUTANTS, checkout)
-    tried.join()
+    beside.join()
     parts.run(C_LIBRARY, checkout)
     for lane in [parts.beside(Parts.run_all, commands, checkout) for commands in LANES]:
         lane.join()

@@ -20,7 +20,7 @@ compile_fuzz() {
         -lm -lpthread -o "$1"
 }
 
-# Mutated blobs through what is compiled from the words from $3 on, $2 of them. No block is left, which the sanitizer looks for at the end.
+# Compiles the fuzzer from the files from $3 on, and runs it over $2 mutated blobs. At the end the sanitizer looks for blocks that weren't freed.
 test_fuzz() {
     needs "$1" 'the compiler has no address sanitizer that runs here' compiles_with "${sanitizers[@]}" || return
     check "$1, compiled" compile_fuzz "$work/fuzz" "${@:3}" && check "$1" "$work/fuzz" "$2"
@@ -32,7 +32,7 @@ test_grid() {
         -o "$work/grid" && "$work/grid" bindings/grid.txt
 }
 
-# A statement, or more words, of the shell, in which the extension is loaded by one line.
+# Runs SQLite's shell with these words, and prints its errors too.
 ask() { sqlite3 -batch "$@" 2>&1; }
 
 test_shell() {
@@ -45,7 +45,7 @@ test_shell() {
     prints 'the version' "$(sed -n '/^## /{s/^## //p;q}' CHANGELOG.md)" ask :memory: ".load $work/out/mod_i_shape" 'SELECT i_shape_version()'
 }
 
-# The module has no names but its entries, and asks for no others of the program than SQLite's own.
+# The module exports its entry points alone, and imports no name of SQLite, since it calls SQLite by the table that it is given.
 test_module() {
     prints 'the names of the module' $'sqlite3_extension_init\nsqlite3_modishape_init\nsqlite3_modishapegpkg_init' \
         bash -c "nm -D --defined-only '$work/out/mod_i_shape.so' | sed 's/.* //' | sort"
@@ -56,6 +56,20 @@ test_module() {
         bash -c "make -n sqlite install-sqlite 'I_SHAPE_C_DIR=$work' | grep -c 'I_SHAPE_C_DIR=$work\b'"
     check 'make install' build "$work/out" install "DESTDIR=$work/installed" LIBDIR=/usr/lib
     check 'what is installed' cmp "$work/out/mod_i_shape.so" "$work/installed/usr/lib/mod_i_shape.so"
+}
+
+# Over the library of a release, and over that of cargo wherever it is installed, the module looks for no SSE4.2.
+test_folder() {
+    local folder=$work/release
+    mkdir -p "$folder/glibc-hwcaps" && cp "$library/libi_shape.a" "$folder"
+    check 'over the library of a release' build "$work/of_release" "I_SHAPE_C_DIR=$folder"
+    [ -e "$work/of_release/mod_i_shape.so" ] && ! grep -q 'has no SSE4.2' "$work/of_release/mod_i_shape.so"
+    count $? 'over the library of a release it is for each x86-64'
+    rm -r "$folder/glibc-hwcaps"
+    needs 'over the library of cargo' 'the library is not of cargo' [ -e "$library/by_cargo" ] || return
+    check 'over the library of cargo' build "$work/of_cargo" "I_SHAPE_C_DIR=$folder"
+    [ -e "$work/of_cargo/mod_i_shape.so" ] && ! grep -q 'has no SSE4.2' "$work/of_cargo/mod_i_shape.so"
+    count $? 'over the library of cargo it is for each x86-64'
 }
 
 # A module that finds a processor without SSE4.2 fails to load.
@@ -98,6 +112,7 @@ build "$work/out" > "$work/log" 2>&1 || { cat "$work/log" && count 1 'the extens
 cp "$work/out/mod_i_shape.so" "$work/renamed.so"
 test_shell
 test_module
+test_folder
 test_processor
 test_sha256
 add 'from Python' run_tests

@@ -1,6 +1,7 @@
 #!/usr/bin/env python3
 """Tests the scripts that test the rest, and how i_shape_tool and the program's build behave, over stand-ins for rt and small texts."""
 import os
+import re
 import shutil
 import signal
 import subprocess
@@ -39,6 +40,13 @@ class Case(unittest.TestCase):
     def started(self):
         return pages.read(f"{self.room}/started").split() if os.path.exists(f"{self.room}/started") else []
 
+    def leave_tools(self, *names):
+        """Nothing but these is on the path then."""
+        os.mkdir(f"{self.room}/tools")
+        for name in names:
+            os.symlink(shutil.which(name), f"{self.room}/tools/{name}")
+        self.environment["PATH"] = f"{self.room}/tools"
+
     def run_in(self, folder, *words, **how):
         return subprocess.run(words, cwd=folder, env=self.environment, capture_output=True, text=True, check=False, **how)
 
@@ -46,7 +54,7 @@ class Case(unittest.TestCase):
 class ProofTest(Case):
     """What scripts/proof.py prints of a log of rt."""
 
-    LAST = "fn i_shape_c::b: proved\nfn i_shape_c::a: proved\naxioms libc: malloc\nlogic=proved functions=2 sum=1 statements=trusted"
+    LAST = "fn i_shape_c::b: proved\nfn i_shape_c::a: proved\nfn i_shape_c::fn::a::find: proved\naxioms libc: malloc\nlogic=proved functions=2 sum=1 statements=trusted"
 
     def printed(self, log, crate="i_shape_c"):
         write(f"{self.room}/log", log)
@@ -60,7 +68,7 @@ class ProofTest(Case):
         lines = kept.splitlines()
         self.assertEqual([lines[0], *(line.split()[1] for line in lines if line.startswith("sources "))],
                          ["crate i_shape_c", "i_shape_c", "i_shape", "i_shape_contacts", "i_shape_core", "i_shape_source"])
-        self.assertEqual(lines[-4:], ["fn i_shape_c::a: proved", "fn i_shape_c::b: proved", "axioms libc: malloc",
+        self.assertEqual(lines[-5:], ["fn i_shape_c::a: proved", "fn i_shape_c::b: proved", "fn i_shape_c::fn::a::find: proved", "axioms libc: malloc",
                                       "logic=proved functions=2 sum=1 statements=trusted incremental=trusted"])
 
     def test_files(self):
@@ -89,8 +97,11 @@ echo i_shape_core: ok
         version = self.run_in(TOP, "scripts/version.sh").stdout.strip()
         folder = f"i_shape-{version}-proof"
         self.run_in(self.room, "tar", "-xzf", f"dist/{folder}.tar.gz")
-        crates = "i_shape", "i_shape_c", "i_shape_contacts", "i_shape_core", "i_shape_laws", "i_shape_source", "i_shape_tool", "i_shape_tool_main"
-        self.assertEqual(sorted(os.listdir(f"{self.room}/{folder}")), sorted(crates))
+        crates = "i_shape", "i_shape_c", "i_shape_c_calls", "i_shape_contacts", "i_shape_core", "i_shape_laws", "i_shape_source", "i_shape_tool", "i_shape_tool_main"
+        self.assertEqual(sorted(os.listdir(f"{self.room}/{folder}")), sorted((*crates, "README.md")))
+        page = pages.read(f"{self.room}/{folder}/README.md")
+        self.assertEqual(sorted({*re.findall("`(i_shape_[a-z]+)`", page)} - {*crates}), [])
+        self.assertIn(f"`i_shape-{version}-source.tar.gz`", page)
         for crate in crates:
             lines = pages.read(f"{self.room}/{folder}/{crate}").splitlines()
             self.assertEqual([lines[0], *lines[-2:]], [f"crate {crate}", f"fn {crate}::a: proved", "logic=proved functions=1 statements=trusted"])
@@ -102,6 +113,25 @@ echo i_shape_core: ok
     def test_another_crate(self):
         for log in ("", f"{self.LAST}\nfn i_shape::c: proved\nlogic=proved functions=1\n", "fn i_shape_c::a: proved\n"):
             self.assertEqual((self.printed(log).returncode, self.printed(log).stdout), (1, ""))
+
+    def test_missing_functions(self):
+        """A log that names fewer functions than its verdict counts, or more, isn't printed."""
+        for functions in ("1", "3", "20", ""):
+            ran = self.printed(self.LAST.replace("functions=2", f"functions={functions}"))
+            self.assertEqual((ran.returncode, ran.stdout), (1, ""), functions)
+
+
+class LibraryTest(Case):
+    def test_neither_kit_nor_cargo(self):
+        """`make c` names what a built library serves for, that of a release too."""
+        for name in ("bindings/c/build.sh", "scripts/version.sh", "include/i_shape.h"):
+            os.makedirs(os.path.dirname(f"{self.room}/{name}"))
+            shutil.copy(f"{TOP}/{name}", f"{self.room}/{name}")
+        self.leave_tools("bash", "sh", "dirname", "sed", "find", "head", "mkdir", "flock")
+        built = self.run_in(self.room, "bash", "bindings/c/build.sh")
+        self.assertEqual(built.returncode, 1)
+        for told in ("neither cargo nor rt", "I_SHAPE_C_DIR", "lib of a release", "`make wheel`", "`make postgres`", "`make sqlite`"):
+            self.assertIn(told, built.stderr)
 
 
 class PartsTest(Case):
@@ -166,7 +196,7 @@ run.end()
             time.sleep(0.1)
         self.assertEqual(self.started(), ["started"])
         os.killpg(gate.pid, signal.SIGINT)
-        self.assertEqual(gate.wait(5), 130)
+        self.assertEqual(gate.wait(60), 130)
         self.assertEqual(self.in_session(gate.pid), [])
 
 
@@ -238,6 +268,13 @@ cat > "$STAND_IN/given"; cat "$STAND_IN/answer"; echo "$1" >&2; exit "$(cat "$ST
         ran = self.run_in("/", f"{self.top}/i_shape_tool", b"\xff")
         self.assertEqual((ran.returncode, ran.stdout, ran.stderr), (4, "", "input or output failed\n"))
         self.assertEqual(self.started(), [])
+
+    def test_built_without_the_kit(self):
+        """The error names what runs then; for another machine nothing does."""
+        self.leave_tools("bash", "dirname", "find")
+        for words, runs in (((), True), (("--target", "aarch64"), False), (("--cpu", "x86-64"), False)):
+            built = self.run_in("/", "bash", f"{self.top}/scripts/program/build.sh", *words)
+            self.assertEqual((built.returncode, "there is no rt of it" in built.stderr, "./i_shape_tool runs" in built.stderr), (1, True, runs))
 
     def test_built(self):
         """Of two builds at once one builds. The program of these sources runs then, and one of older sources doesn't."""
@@ -376,8 +413,6 @@ class WrongTest(Case):
         write(f"{self.room}/.ci/wrong.py", pages.read(f"{TOP}/.ci/wrong.py"))
         mutants = [f"mutant: {name}\nrefused: {function}\nold: {old}\nnew: {new}\n" for name, function, old, new, _ in EDITS]
         write(f"{self.room}/crates/doubles/wrong/lib.edit", "\n".join(mutants))
-        # What passes by the weaker search isn't noted.
-        self.assertEqual(self.run_wrong("--quick", "--only", "lists_its_goals")[0], 0)
         status, said = self.run_wrong()
         for name, *_, what in EDITS:
             self.assertIn(f"mutant doubles/{name}: {what}", said)
@@ -391,6 +426,18 @@ class WrongTest(Case):
         status, said = self.run_wrong("--only", "forgets_half")
         self.assertNotIn(note, said)
         self.assertEqual((status, said.splitlines()[-1]), (0, "mutants: 1 passed, 0 failed"))
+        # The weaker search judges a crate alone all of whose mutants passed as they are, and what passes by it isn't noted.
+        write(f"{self.room}/crates/doubles/wrong/lib.edit", mutants[[name for name, *_ in EDITS].index("lists_its_goals")])
+        in_full = "doubles: .ci/judged.txt doesn't list it as it is, so its mutants are judged in full"
+        self.assertIn(in_full, self.run_wrong("--quick")[1])
+        self.assertEqual(self.run_wrong("--write")[0], 0)
+        shutil.rmtree(f"{self.room}/cache")
+        status, said = self.run_wrong("--quick")
+        self.assertNotIn(in_full, said)
+        self.assertEqual((status, said.splitlines()[-1]), (0, "mutants: 1 passed, 0 failed"))
+        self.assertFalse(os.path.exists(f"{self.room}/cache"))
+        write(f"{self.room}/crates/doubles/src/lib.rt", DOUBLES)
+        self.assertIn(in_full, self.run_wrong("--quick")[1])
 
 
 if __name__ == "__main__":

@@ -6,9 +6,11 @@ checks kept. An edit passes where the prover leaves a goal of its own function o
 'returns-clause-NAME', say, or the goal NAME itself, which may be one of a loop or of a call. A fault of a function that it calls, or a text that cannot be read,
 is not enough. Rounds go on until each edit is judged. The libraries below a crate whose edits are tried are proved first, where they aren't.
 
-With --quick, the goals that the line 'goals' of an edit lists, those that were open when it was written, are given the answer `search rules` in the copy, where
-its function has none. Rattle's own attempt at such a goal fails three times as slowly, and is made again to print what is open. But it proves more: a right body
-may pass by the quick judge, so nothing that passes is noted.
+An edit lists in its line 'goals' those that were open when it was written. With --quick, these are given the answer `search rules` in the copy, where the
+function has none. Rattle's own attempt at such a goal fails three times as slowly, and is made again to print what is open. But it proves more, so a right body
+may pass by the weaker search. Therefore --quick judges so only the edits of a crate that .ci/judged.txt lists, and those of another crate in full. That file has
+a sum for each crate whose edits all passed in full: of the kit, this script, the edits, and the crate with those below it. --write writes it. What passes by
+the weaker search isn't noted.
 
 An edit that passed is noted in ~/.cache/raspochre, or below $XDG_CACHE_HOME, by a sum of what it was judged by: the kit, this script, the edit, its crate's line
 in crates.txt, the code, contracts and proofs of its crate, and what the libraries below state. While none of these changes, it passes again without a check, in
@@ -189,6 +191,28 @@ def stamp_of(crate):
     return total.hexdigest()
 
 
+class Judged:
+    """The crates whose edits were all refused in full as they are, by .ci/judged.txt: lines of a crate's name and a sum."""
+
+    FILE = ".ci/judged.txt"
+
+    def __init__(self):
+        self.sums = dict(line.split() for line in read(self.FILE).splitlines()) if os.path.isfile(self.FILE) else {}
+
+    @staticmethod
+    def sum_of(crate, edits):
+        judges = read(os.path.realpath(__file__)), read(KIT.__file__), crate.stamp(), [(it.path, it.text) for it in edits]
+        return hashlib.sha256(repr(judges).encode()).hexdigest()
+
+    def has(self, crate, edits):
+        return self.sums.get(crate.name) == self.sum_of(crate, edits)
+
+    def add(self, crate, edits):
+        self.sums[crate.name] = self.sum_of(crate, edits)
+        with open(self.FILE, "w", encoding="utf-8") as out:
+            out.writelines(f"{name} {total}\n" for name, total in sorted(self.sums.items()))
+
+
 class Notes:
     """The mutants of one crate that passed on this machine: a file for each, named for the sum of all that it was judged by."""
 
@@ -196,7 +220,7 @@ class Notes:
         self.crate, self.stamp = crate, stamp_of(crate)
 
     def place(self, edit):
-        judges = read(os.path.realpath(__file__)), read(KIT.__file__), self.stamp, edit.name, edit.text
+        judges = read(os.path.realpath(__file__)), read(KIT.__file__), self.stamp, edit.path, edit.text
         return f"{NOTES}/{hashlib.sha256(repr(judges).encode()).hexdigest()}"
 
     def goals_of(self, edit):
@@ -220,6 +244,7 @@ class Trial:
 
     def __init__(self, crate, edits, writes, is_quick):
         self.crate, self.left, self.notes, self.writes, self.is_quick, self.passed = crate, edits, Notes(crate), writes, is_quick, []
+        self.stamp = crate.stamp()
 
     def sort_out(self, is_anew):
         """Judges the edits that can't be tried, and those that are noted unless all are tried anew, and marks which of the others are tried alone."""
@@ -246,6 +271,10 @@ class Trial:
                 for edit in taken:
                     self.look_at(edit, found, len(taken) == 1)
                 self.notes.add([] if self.is_quick else self.passed[known:])
+
+    def has_judged_all(self, edits):
+        """Whether all these, the crate's edits, passed in full, and the crate is as it was before the first round."""
+        return not self.is_quick and len(self.passed) == len(edits) and self.stamp == self.crate.stamp()
 
     def judge(self, edit, why_not):
         self.left.remove(edit)
@@ -319,8 +348,8 @@ def main():
     parser = argparse.ArgumentParser(description=__doc__, formatter_class=argparse.RawDescriptionHelpFormatter)
     parser.add_argument("--lanes", type=int, default=processors, metavar="N", help="try the edits of as many crates at once")
     parser.add_argument("--anew", action="store_true", help="try the edits that are noted too")
-    parser.add_argument("--write", action="store_true", help="write the line 'clause' into edits that pass and have none: read it, as it only says what was open")
-    parser.add_argument("--quick", action="store_true", help="answer the goals that the edits list by a weaker search: what passes may be a right body")
+    parser.add_argument("--write", action="store_true", help="write .ci/judged.txt, and into edits that pass the lines 'clause' and 'goals' that they lack: read them")
+    parser.add_argument("--quick", action="store_true", help="try the edits of crates that .ci/judged.txt lists by a weaker search")
     parser.add_argument("--only", nargs="+", default=[], metavar="WORD", help="try the edits of these crates, and those with one of these words in their names")
     parser.add_argument("--except", nargs="+", default=[], metavar="CRATE", dest="left_out", help="try no edit of these crates")
     asked = parser.parse_args()
@@ -340,16 +369,24 @@ def main():
     for edit in chosen:
         if edit.crate not in listed:
             report(edit, "BAD EDIT: crates.txt does not list its crate")
-    edits = {crate: [it for it in chosen if it.crate == name] for name, crate in listed.items()}
+    edits, of_crate = ({crate: [it for it in its if it.crate == name] for name, crate in listed.items()} for its in (chosen, every))
+    judged = Judged()
     # its first call sets a signal's handler, which only the main thread may
     KIT.guarded()
     trials = []
     libraries = dict.fromkeys(below for crate, its in edits.items() if its for below in crate.below())
     if all(it.build_rlib(["--jobs", str(processors)], anew=False) == 0 for it in libraries):
-        trials = [Trial(crate, its, asked.write, asked.quick).sort_out(asked.anew) for crate, its in edits.items() if its]
+        quick = {crate for crate in edits if asked.quick and judged.has(crate, of_crate[crate])}
+        trials = [Trial(crate, its, asked.write, crate in quick).sort_out(asked.anew) for crate, its in edits.items() if its]
+        for trial in trials:
+            if asked.quick and not trial.is_quick:
+                print(f"{trial.crate.name}: {judged.FILE} doesn't list it as it is, so its mutants are judged in full", flush=True)
         open_ones = sorted((it for it in trials if it.left), key=lambda it: -len(it.left))
         with ThreadPoolExecutor(asked.lanes) as pool:
             list(pool.map(Trial.run, open_ones))
+    for trial in trials:
+        if asked.write and trial.has_judged_all(of_crate[trial.crate]):
+            judged.add(trial.crate, of_crate[trial.crate])
     passed = sum(len(it.passed) for it in trials)
     failed = len(chosen) - passed  # with those that were not judged
     # notes that no run has used for sixty days go

@@ -1,7 +1,7 @@
 #!/usr/bin/env bash
 # Packs what a release holds into a folder: the C library for each Linux, in an archive and in a wheel, the program for each, the verdicts of the proofs, the package for JavaScript, the plugin of QGIS, in source
 # the crate for Rust, the C library and the package for Python, the site, and SHA256SUMS. What isn't built yet is built first; the C library and the program for each processor of their machine. Two runs over one commit give the same bytes:
-# names are sorted, and each time is that of the commit, or SOURCE_DATE_EPOCH.
+# names are sorted, and each time is that of the commit, which the file COMMIT of a source archive has too, or SOURCE_DATE_EPOCH.
 #
 # usage: dist.sh FOLDER [PART..]
 #
@@ -16,7 +16,12 @@ folder=${1:?the folder to pack into}
 shift
 [ $# -gt 0 ] || set -- linux-x86_64 linux-aarch64 wheel-x86_64 wheel-aarch64 program-x86_64 program-aarch64 proof javascript qgis rust c python source site
 version=$("$top/scripts/version.sh")
-SOURCE_DATE_EPOCH=${SOURCE_DATE_EPOCH:-$(git -C "$top" log -1 --format=%ct)}
+if [ -z "${SOURCE_DATE_EPOCH-}" ]; then
+    SOURCE_DATE_EPOCH=$(stat -c %Y "$top/COMMIT" 2> /dev/null || git -C "$top" log -1 --format=%ct 2> /dev/null) || {
+        echo "dist.sh: no commit in $top says the time of the files: set SOURCE_DATE_EPOCH to it, in seconds since 1970" >&2
+        exit 1
+    }
+fi
 export SOURCE_DATE_EPOCH
 work=$(mktemp -d)
 trap 'rm -rf "$work"' EXIT
@@ -54,7 +59,7 @@ pack_linux() {
     cp -R "$top"/bindings/c/{sample.c,codes.c,sample.cpp,codes.cpp,consumer} "$top"/examples/{clean,polygons}.c "$work/$name/sample"
     cp "$top"/{LICENSE,NOTICE} "$work/$name"
     sed "s|@VERSION@|$version|; s|@MACHINE@|$machine|" "$top/bindings/c/archive.md" > "$work/$name/README.md"
-    print_proof "$library/build.log" i_shape_c "$work/$name" lib/libi_shape.a "lib/libi_shape.so.$version" > "$work/$name/PROOF"
+    print_proof "$library/build.log" i_shape_c_calls "$work/$name" lib/libi_shape.a "lib/libi_shape.so.$version" > "$work/$name/PROOF"
     [ "$machine" != x86_64 ] || add_faster "$work/$name"
     pack "$name" "$name.tar.gz"
 }
@@ -71,7 +76,7 @@ add_faster() {
     build_default
     mkdir -p "$to"
     cp -P "$default"/libi_shape.so.* "$to"
-    print_proof "$default/build.log" i_shape_c "$1" "lib/glibc-hwcaps/x86-64-v2/libi_shape.so.$version" > "$1/PROOF.x86-64-v2"
+    print_proof "$default/build.log" i_shape_c_calls "$1" "lib/glibc-hwcaps/x86-64-v2/libi_shape.so.$version" > "$1/PROOF.x86-64-v2"
 }
 
 pack_program() {
@@ -87,7 +92,7 @@ pack_program() {
 # The verdict of each crate that a release rests on or claims, from nothing: in a copy of these, for which the kit has kept nothing.
 pack_proof() {
     local name=i_shape-$version-proof crate
-    local proved=(i_shape_core i_shape_contacts i_shape_source i_shape_laws i_shape i_shape_tool i_shape_tool_main i_shape_c)
+    local proved=(i_shape_core i_shape_contacts i_shape_source i_shape_laws i_shape i_shape_tool i_shape_tool_main i_shape_c i_shape_c_calls)
     mkdir "$work/anew" "$work/$name"
     tar --create --exclude=out -C "$top" HANDLES "${proved[@]/#/crates/}" | tar -x -C "$work/anew"
     grep -E "^($(IFS='|' && echo "${proved[*]}"))[ :]" "$top/crates.txt" > "$work/anew/crates.txt"
@@ -97,6 +102,7 @@ pack_proof() {
         print_proof --verdict "$work/log" "$crate" > "$work/$name/$crate"
     done
     rm -rf "$work/anew"
+    sed "s|@VERSION@|$version|" "$top/scripts/proof.md" > "$work/$name/README.md"
     pack "$name" "$name.tar.gz"
 }
 
@@ -107,7 +113,7 @@ pack_wheel() {
     I_SHAPE_C_DIR=$library WHEEL_FASTER=$default WHEEL_SYSTEM=manylinux_2_17 sh "$top/bindings/python/build.sh" "$work/packed" > /dev/null
 }
 
-# As `npm pack` lays it out.
+# As `npm pack` lays it out, so that a release needs no npm.
 pack_javascript() {
     local its=$top/bindings/js
     bash "$its/build.sh"

@@ -1,12 +1,12 @@
 # Sourced by what packs packages of rust/ as they are in a release, with $top, the top of the checkout, and $work, a folder for what is temporary.
 
-# The folder of the Rust that the build script of the package $1 leaves of the proved source.
+# Prints the folder in which the build script of the package $1 puts the Rust of the proved source.
 erased_of() {
     cargo check --quiet --offline --locked --manifest-path "$top/rust/$1/Cargo.toml" --target-dir "$work/target" --message-format json |
         sed -nE "/\"build-script-executed\"/s|.*rust/$1#.*\"out_dir\":\"([^\"]*)\".*|\1/erased|p"
 }
 
-# The package $1 in the folder $2, which has its src: that Rust lies in there, and the package is no member of a workspace. It has a lock, and needs no other.
+# Completes the package $1 in the folder $2, which has its src: adds that Rust, and a manifest outside the workspace, with a lock file. It needs no other package.
 add_erased() {
     local its=$top/rust/$1 erased
     erased=$(erased_of "$1")

@@ -35,10 +35,10 @@ def sum_of(path):
 
 
 def sum_of_sources(crate):
-    """As `sha256sum` prints it of what `sha256sum` prints of the sources, in the order of their bytes."""
+    """As `sha256sum` prints it of what `sha256sum` prints of the sources, and of the files that say what each crate uses, in the order of their names' bytes."""
     folder = TOP / "crates" / crate
-    files = sorted((path.relative_to(folder).as_posix() for part in ("src", "specs", "proofs") for path in (folder / part).rglob("*") if path.is_file()),
-                   key=str.encode)
+    files = [path.relative_to(folder).as_posix() for part in ("src", "specs", "proofs") for path in (folder / part).rglob("*") if path.is_file()]
+    files = sorted([*files, "../../crates.txt", "../../HANDLES"], key=str.encode)
     lines = "".join(f"{sum_of(folder / name)}  {name}\n" for name in files)
     return hashlib.sha256(lines.encode()).hexdigest()
 
@@ -56,13 +56,18 @@ def said_of(log, crate):
 
 
 def said_last(log, crate):
-    """What the kit said of the last crate of a log, which has to be this one and proved: the lines, and the words of its verdict."""
+    """What the kit printed of the last crate of a log, which must be this one, proved: a line of each function that the verdict counts, and the verdict's words."""
     sections = re.findall(r"(?s)(.*?^logic=proved [^\n]*\n)", log + "\n", re.MULTILINE) or [""]
     lines = sections[-1].splitlines()
     functions = sorted(line for line in lines if re.match(r"fn .*: proved$", line))
     if not any(line.startswith(f"fn {crate}::") for line in functions):
         sys.exit(f"proof.py: the log has no verdict of {crate} at its end")
-    return [*functions, *(line for line in lines if line.startswith("axioms "))], lines[-1].split()
+    verdict = lines[-1].split()
+    # a closure has lines of its own, below its function's path and the word fn, and the verdict doesn't count it
+    counted = sum("::fn::" not in line for line in functions)
+    if f"functions={counted}" not in verdict:
+        sys.exit(f"proof.py: the log names {counted} functions of {crate} as proved, and its verdict has another number: {lines[-1]}")
+    return [*functions, *(line for line in lines if line.startswith("axioms "))], verdict
 
 
 def main():

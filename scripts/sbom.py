@@ -15,7 +15,7 @@ import sys
 
 RUST = ("Rust's core and alloc", "", "MIT OR Apache-2.0")
 BUILTINS = ("compiler_builtins", "", "MIT AND Apache-2.0 WITH LLVM-exception AND (MIT OR Apache-2.0)")
-KIT = ("Rattle kit", "13", "NOASSERTION")
+KIT = ("Rattle kit", "13b", "NOASSERTION")
 GLIBC = ("glibc startup files", "", "LGPL-2.1-or-later")
 GCC = ("GCC startup files and libgcc", "", "GPL-3.0-or-later WITH GCC-exception-3.1")
 SITE = (("Sphinx", "", "BSD-2-Clause"), ("Furo", "", "MIT"), ("rustdoc", "", "(MIT OR Apache-2.0) AND OFL-1.1"))

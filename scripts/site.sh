@@ -17,6 +17,7 @@ trap 'rm -rf "$work"' EXIT
 doxygen - > "$work/log" 2>&1 << END
 INPUT = include/i_shape.h include/i_shape.hpp
 INPUT_FILTER = "perl -0p docs/site/comments.pl"
+PREDEFINED = __cplusplus=201703L
 EXCLUDE_SYMBOLS = i_shape::detail i_shape::PointTraits<* I_SHAPE_CALLS I_SHAPE_TAKES_OFFSETS
 GENERATE_HTML = NO
 GENERATE_LATEX = NO

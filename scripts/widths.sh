@@ -1,11 +1,11 @@
 #!/usr/bin/env bash
 # Makes the calls of C at 16 and at 64 bits, their proofs and their declarations, from those at 32 bits: i16.rt, i64.rt and i32.rt in
-# crates/i_shape_c/src/calls and its folder measures, the folders of these names in proofs/calls, and the sections of include/i_shape.h. With the word --check
-# it says where what is there is something else.
+# crates/i_shape_c_calls/src/calls and its folder measures, the folders of these names in proofs/calls, and the sections of include/i_shape.h. With the word
+# --check it says where what is there is something else.
 set -euo pipefail
 shopt -s nullglob
 cd "$(dirname "$0")/.." || exit 1
-crate=crates/i_shape_c
+crate=crates/i_shape_c_calls
 modules=(calls calls/measures)
 header=include/i_shape.h
 
@@ -20,7 +20,7 @@ at_width() {
 in_halves() {
     sed -E -e 's/&mut (\[?)i128/\&mut \1Halves/; s/area::area_two;/area::{Halves, area_two};/; s/= twice;/= Halves::of(twice);/' \
         -e 's/\(IsDoubleArea w128\)/AreDoubleAreaHalves/; s/IsDoubleArea( w128)?/AreDoubleAreaHalves/; s/, w128\}/}/' \
-        -e 's/^use crate::measures::/use crate::area::Halves;\n&/'
+        -e 's/^use i_shape_c::measures::/use i_shape_c::area::Halves;\n&/'
 }
 
 # Makes the width $1, whose products have $2 bits, of the module $3 in the folder $4.

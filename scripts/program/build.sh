@@ -99,6 +99,7 @@ if is_built; then
 fi
 if ! command -v rt > /dev/null; then
     echo 'make program: the program is proved and built by the Rattle kit, and there is no rt of it on the path' >&2
+    [ -n "$target$cpu" ] || echo 'make program: ./i_shape_tool runs the one that cargo builds, of the same source without its contracts' >&2
     exit 1
 fi
 if [ "$target" = aarch64 ] && ! command -v aarch64-linux-gnu-gcc > /dev/null; then
