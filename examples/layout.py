@@ -9,9 +9,11 @@ PYTHONPATH names the folder that holds it:
 
 Rectangles, which KLayout reads as boxes, are polygons too. Paths and texts
 stay as they are. A polygon that collapses is taken out, and a line names
-its cell, its layer and its box in database units. With -rd times=yes, lines
-say how long the call took, and how long KLayout's own Polygon.compress(true)
-does for the same polygons.
+its cell, its layer and its box in database units. A line says how many of
+those left repeat an earlier one of the cell and layer, from whichever point
+they start, and how many aren't valid, as where edges cross or a hole is cut
+into its outer ring. With -rd times=yes, lines say how long the call took, and
+how long KLayout's own Polygon.compress(true) does for the same polygons.
 """
 
 from __future__ import annotations
@@ -77,6 +79,17 @@ def put_back(polygons: Polygons, left: i_shape.Rings) -> None:
             place.shapes.erase(place.shape)
 
 
+def tell(polygons: Polygons, left: i_shape.Rings) -> None:
+    """Say how many repeat an earlier one, and how many aren't valid."""
+    rings = np.flatnonzero(np.diff(left.offsets))
+    keys = i_shape.canonical_keys(*left)
+    placed = [(polygons.places[ring].cell, str(polygons.places[ring].layer),
+               keys[ring]) for ring in rings.tolist()]
+    faults = i_shape.polygon_validity(*left, np.arange(len(left.offsets)))
+    print(f"{len(placed) - len(set(placed))} repeat an earlier one,"
+          f" {np.count_nonzero(faults['kind'][rings])} aren't valid")
+
+
 def compress_seconds(polygons: Polygons) -> float:
     """How long KLayout takes for the same polygons."""
     copies = [place.shape.polygon for place in polygons.places]
@@ -104,6 +117,7 @@ def clean(given: str, out: str, is_timed: bool) -> None:
             print(f"{name}: {spent * 1e3:.1f} ms,"
                   f" {len(polygons.points) / spent / 1e6:.1f} million points"
                   " a second")
+    tell(polygons, left)
     put_back(polygons, left)
     layout.write(out)
 

@@ -39,7 +39,7 @@ double time_of(const Call &call, std::size_t calls) {
     return (processor_time() - start) / double(calls);
 }
 
-// What a column says of a drawing. Without a least time it wasn't asked.
+// What a column has for a drawing. Without a least time its call wasn't made.
 struct Cell {
     Call call;
     std::size_t answer = 0;

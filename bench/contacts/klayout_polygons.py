@@ -3,7 +3,8 @@
     klayout -b -r klayout_polygons.py -rd given=GDS -rd told=JSON
 
 It writes those of all cells and layers, each as it is drawn, which is one
-ring, and then what Region.merge makes of each by itself, with holes.
+ring, and then what Region.merge makes of each by itself, with holes: as it
+does by default, and with min_coherence.
 """
 
 import json
@@ -24,8 +25,9 @@ def rings_of(polygon):
               for hole in range(polygon.holes()))]
 
 
-def merged(shape):
+def merged(shape, is_coherent):
     region = pya.Region(shape.polygon)
+    region.min_coherence = is_coherent
     region.merge()
     return map(rings_of, region.each())
 
@@ -37,7 +39,10 @@ def polygons_of(path):
     return {
         "drawn": [[points_of(shape.simple_polygon.each_point())]
                   for shape in shapes],
-        "merged": [polygon for shape in shapes for polygon in merged(shape)],
+        **{name: [polygon for shape in shapes
+                  for polygon in merged(shape, is_coherent)]
+           for name, is_coherent in (("merged", False),
+                                     ("merged, coherent", True))},
     }
 
 
