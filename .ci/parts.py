@@ -7,10 +7,11 @@ test is what `make test` runs, gate what `make gate` runs, and run is both, for 
 
 A part is a command. What it counts is its last line `[NAME: ]N passed, M failed[, K skipped]`, or what rt counts of a crate's tests; without such a line, or if
 it fails though it counts no failure, it counts as one failed. The last line adds up the counts, and the status is 0 where none failed. Whatever ends this script,
-all processes that it has started end with it, and its folder goes.
+all processes that it has started end with it, and its folder goes. Before the last line come the lines that name what failed, since CI shows the end alone.
 """
 import contextlib
 import ctypes
+import itertools
 import os
 import re
 import shlex
@@ -24,6 +25,9 @@ import time
 
 TOP = os.path.dirname(os.path.dirname(os.path.realpath(__file__)))
 COUNTS = re.compile(r"^(?:[a-z. ]+: |test result: .*\. )?(\d+) passed[,;] (\d+) failed(?:, (\d+) skipped$|;.*$|$)", re.MULTILINE)
+# The lines that name a failure, by part.sh, unittest, Node, cargo, the mutants and rt, and the line below which this script repeats them.
+NAMES_FAILURE = re.compile(r"failed: |(FAIL|ERROR|FAILED)\b|not ok |\s*✖ |(mutant|test) .*(NOT REFUSED|BAD EDIT|FAILED)|.*(not proved|open goal)")
+REPEATED = "What failed:"
 LEFT_OUT = shutil.ignore_patterns(".git", "out", "target", "dist", "environment", "__pycache__")
 # The parts of the tests, in the order in which they start, two at a time: the longest first, and the pages, which show what others build, last.
 TESTS = (".ci/javascript.sh --quick", ".ci/cargo.sh --quick", ".ci/c_library.sh --quick", ".ci/python_package.sh --quick", ".ci/postgres.sh --quick",
@@ -52,6 +56,14 @@ def counts_of(said, status):
     return (passed, failed, skipped), None
 
 
+def failures_in(said):
+    """The lines of what a part said that name a failure: those that it repeats itself, or the first six, or the last three if none is seen to."""
+    lines = said.splitlines()
+    if REPEATED in lines:
+        return list(itertools.takewhile(lambda line: not COUNTS.match(line), lines[len(lines) - lines[::-1].index(REPEATED):]))
+    return [line for line in dict.fromkeys(lines) if NAMES_FAILURE.match(line)][:6] or lines[-4:-1]
+
+
 def sum_line(counts):
     passed, failed, skipped = (sum(column) for column in zip((0, 0, 0), *counts))
     return f"{passed} passed, {failed} failed" + (f", {skipped} skipped" if skipped else "")
@@ -75,7 +87,7 @@ class Parts:
     """A run of parts, with what they count and a folder, which rt's programs and tests reach as nobody."""
 
     def __init__(self):
-        self.counts, self.is_over, self.lock = [], False, threading.RLock()
+        self.counts, self.failures, self.is_over, self.lock = [], [], False, threading.RLock()
         # PR_SET_CHILD_SUBREAPER: what a part leaves behind stays below this process.
         ctypes.CDLL(None).prctl(36, 1)
         self.take_signals(lambda *_: sys.exit(130))
@@ -113,16 +125,19 @@ class Parts:
         # a process that it has left behind may hold its output open
         listener.join(10)
         print(f"processor minutes: {(used.ru_utime + used.ru_stime) / 60:.1f} ({command})", flush=True)
-        self.add(command, *counts_of("".join(lines), part.returncode))
+        said = "".join(lines)
+        self.add(command, *counts_of(said, part.returncode), failures_in(said))
 
     def run_all(self, commands, folder):
         for command in commands:
             self.run(command, folder)
 
-    def add(self, what, counts, fault=None):
+    def add(self, what, counts, fault=None, failures=()):
         if fault:
             print(f"{fault}: {what}", flush=True)
         self.counts.append(counts)
+        if counts[1]:
+            self.failures += [f"{what}: {fault or f'{counts[1]} failed'}", *failures]
 
     def attempt(self, function, *words):
         """Runs a function. What stops it counts as one failed."""
@@ -194,6 +209,8 @@ def main():
     parts = Parts()
     try:
         parts.attempt(runs[sys.argv[1]])
+        if parts.failures:
+            print(REPEATED, *parts.failures, sep="\n")
         print(sum_line(parts.counts), flush=True)
         return any(failed for _, failed, _ in parts.counts)
     finally:

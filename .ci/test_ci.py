@@ -147,6 +147,17 @@ class PartsTest(Case):
         self.assertEqual(parts.sum_line([(1, 0, 0), (2, 0, 0)]), "3 passed, 0 failed")
         self.assertEqual(parts.sum_line([(1, 0, 0), (2, 1, 4)]), "3 passed, 1 failed, 4 skipped")
 
+    def test_failures(self):
+        """The lines that are repeated at the end, also those that `make gate` repeats within .ci/run."""
+        for said, lines in (
+            ("one\nfailed: a\nfailed: a\nFAIL: test_b (c.D)\nFAILED (failures=1)\n1 passed, 2 failed\n", ["failed: a", "FAIL: test_b (c.D)", "FAILED (failures=1)"]),
+            ("mutant c/d: refused\nmutant c/e: NOT REFUSED at f\nmutants: 1 passed, 1 failed\n", ["mutant c/e: NOT REFUSED at f"]),
+            ("one\ntwo\nthree\nfour\n1 passed, 1 failed\n", ["two", "three", "four"]),
+            ("failed: a\nWhat failed:\na_part: 1 failed\nfailed: a\n2 passed, 1 failed\nmake: it failed\n", ["a_part: 1 failed", "failed: a"]),
+            ("no count\n", []),
+        ):
+            self.assertEqual(parts.failures_in(said), lines, said)
+
     def test_shell(self):
         """What part.sh counts: each test that fails, and a run of tests that dies, counts nothing, or hides a failure."""
         write(f"{self.room}/.ci/part.sh", pages.read(f"{TOP}/.ci/part.sh"))
