@@ -16,11 +16,6 @@ export function lengthOf(array) {
     return Reflect.get(TYPED_ARRAY, "length", array);
 }
 
-/** Returns how many bytes these take. */
-export function byteLengthOf(array) {
-    return Reflect.get(TYPED_ARRAY, "byteLength", array);
-}
-
 /** Returns the type of an array of points x0, y0, x1, y1, .. */
 export function kindOf(points) {
     const kind = ArrayBuffer.isView(points) ? KINDS[Reflect.get(TYPED_ARRAY, Symbol.toStringTag, points)] : undefined;

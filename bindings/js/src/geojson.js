@@ -37,12 +37,12 @@ function openedRings(rings) {
     return listOf("rings", rings).map(openedRing);
 }
 
-/** Returns the polygons of a feature or a geometry, each an array of open rings of positions. */
-function polygonsOf(object) {
+/** Returns the polygons of a geometry, or of a feature that lies in no geometry, each an array of open rings of positions. */
+function polygonsOf(object, isGeometry = false) {
     if (typeof object === "string") throw new GeoJsonError("GeoJSON: a text is no object: parse it first, by JSON.parse");
     const { type, coordinates } = object ?? {};
-    if (type === "Feature") return object.geometry === null ? [] : polygonsOf(object.geometry);
-    if (type === "GeometryCollection") return listOf("geometries", object.geometries).flatMap(polygonsOf);
+    if (type === "Feature" && !isGeometry) return object.geometry === null ? [] : polygonsOf(object.geometry, true);
+    if (type === "GeometryCollection") return listOf("geometries", object.geometries).flatMap((geometry) => polygonsOf(geometry, true));
     if (type === "Polygon") return [openedRings(coordinates)];
     if (type === "MultiPolygon") return listOf("polygons", coordinates).map(openedRings);
     throw new GeoJsonError(`GeoJSON: ${type === undefined ? `${shown(object)}, which has no type,` : `a ${type}`} is no polygon`);
@@ -131,7 +131,11 @@ function closedRing(points, ringOffsets, k, coordinate) {
 
 /** Returns the coordinates of each polygon, of grid points that lie a step apart, of which `parts` make 1. */
 function coordinatesOf({ points, ringOffsets, polygonOffsets }, step, parts) {
-    const coordinate = (steps) => (parts ? Number(steps) / parts : Number(steps) * step);
+    const coordinate = (steps) => {
+        const number = parts ? Number(steps) / parts : Number(steps) * step;
+        if (!Number.isFinite(number)) throw new RangeError(`${steps} steps of ${step} are no finite number`);
+        return number;
+    };
     return Array.from({ length: polygonOffsets.length - 1 }, (_, k) =>
         Array.from({ length: polygonOffsets[k + 1] - polygonOffsets[k] }, (_, place) => closedRing(points, ringOffsets, polygonOffsets[k] + place, coordinate)));
 }

@@ -109,6 +109,7 @@ export function fromGeoJson<P extends Points = Int32Array>(object: object, optio
  * The polygons as a `MultiPolygon`, each ring closed.
  * @throws {OffsetsError}
  * @throws {TypeError} there is no step, or an option of another name
+ * @throws {RangeError} a coordinate becomes no finite number
  */
 export function toGeoJson(polygons: GivenPolygons, options: { step: number }): { type: "MultiPolygon"; coordinates: number[][][][] };
 
@@ -260,7 +261,7 @@ export interface IShape {
      */
     polygonValidity(points: Points, ringOffsets: Offsets, polygonOffsets: Offsets): Validity[];
 
-    /** Whether each point is safe, as all calls but `isSafe`, `isSafeRings`, `areaTwo` and `areaTwoRings` ask. */
+    /** Whether each point is safe, as all calls but `isSafe`, `isSafeRings`, `areaTwo`, `areaTwoRings` and `areaTwoPolygons` ask. */
     isSafe(points: Points): boolean;
 
     /** Whether the fill rule, by default "evenodd", fills (x, y), by how often the contour winds about it. Of points on an edge some are filled and others aren't. */
@@ -360,7 +361,7 @@ export interface IShape {
      * @throws {CollapsedError} nothing is left of a feature that had points, unless `collapsed` is "empty"
      * @throws {UnsafePointError} a coordinate has too many steps for the safe range of 64 bits
      * @throws {TypeError} there is no step, or an option of another name
-     * @throws {RangeError} there is no such call
+     * @throws {RangeError} there is no such call, or a coordinate becomes no finite number
      */
     cleanFeatures<T extends object>(object: T, options: CleanOptions): T;
 

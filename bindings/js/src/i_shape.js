@@ -2,7 +2,7 @@
  * Contours of whole-number points, cleaned and measured by the calls of i_shape, compiled to WebAssembly from proved source.
  * i_shape.d.ts says what each call takes, returns and throws.
  */
-import { asOffsets, byteLengthOf, checkCoordinate, isInSafeRange, kindOf, lengthOf, offsetsFault } from "./arrays.js";
+import { asOffsets, checkCoordinate, isInSafeRange, kindOf, lengthOf, offsetsFault } from "./arrays.js";
 import { contactsOf, edgesOf, kindsOf } from "./contacts.js";
 import { CollapsedError, GeoJsonError, IShapeError, OffsetsError, OutOfMemoryError, UnsafePointError } from "./errors.js";
 import { faultsOf } from "./faults.js";
@@ -36,24 +36,31 @@ export async function load(source) {
     return new IShape(exports);
 }
 
-/** How many points an array has. */
-function countOf(points) {
-    return lengthOf(points) / 2;
-}
-
 /** What a call is given, copied into the module's memory: points, and the offsets of rings and of polygons. */
 class Given {
     constructor(loan, points, kind, ...offsets) {
         this.points = points;
         this.kind = kind;
         this.offsets = offsets;
-        this.address = loan.copy(points, kind);
+        // read once: an array over a buffer that another thread makes longer gets longer too
+        this.length = lengthOf(points);
+        this.address = loan.copy(points, kind, this.length);
         this.offsetAddresses = offsets.map((each) => loan.copyOffsets(each));
+    }
+
+    /** How many points there are. */
+    get count() {
+        return this.length / 2;
+    }
+
+    /** How many bytes the points take. */
+    get bytes() {
+        return this.length * this.kind.Points.BYTES_PER_ELEMENT;
     }
 
     /** For each array its address, and how many items it has. */
     get words() {
-        return [this.address, countOf(this.points), ...this.offsets.flatMap((each, k) => [this.offsetAddresses[k], each.length])];
+        return [this.address, this.count, ...this.offsets.flatMap((each, k) => [this.offsetAddresses[k], each.length])];
     }
 
     /** The words of the points and of the rings, for a call that takes no polygons. */
@@ -397,8 +404,8 @@ class IShape {
     }
 
     /** The error for a point of a contour, or of a ring, that isn't safe. */
-    #unsafePoint({ points, kind, address, offsets: [rings] }) {
-        const [first, end] = [rings?.[0] ?? 0, rings?.at(-1) ?? lengthOf(points) / 2];
+    #unsafePoint({ points, count, kind, address, offsets: [rings] }) {
+        const [first, end] = [rings?.[0] ?? 0, rings?.at(-1) ?? count];
         const place = first + this.#firstUnsafe(address + 2 * first * kind.Points.BYTES_PER_ELEMENT, end - first, kind);
         const ring = rings?.findLastIndex((offset) => offset <= place);
         const where = `${ring === undefined ? "" : `ring ${ring}: `}point ${place}`;
@@ -406,8 +413,8 @@ class IShape {
     }
 
     /** Throws where offsets of rings don't divide the points, or those of polygons the rings. */
-    #checkOffsets({ points, offsets: [rings, polygons], offsetAddresses: [ringAddress, polygonAddress] }) {
-        this.#checkParting(rings, ringAddress, lengthOf(points) / 2, polygons ? "ringOffsets" : "offsets");
+    #checkOffsets({ count, offsets: [rings, polygons], offsetAddresses: [ringAddress, polygonAddress] }) {
+        this.#checkParting(rings, ringAddress, count, polygons ? "ringOffsets" : "offsets");
         if (polygons) this.#checkParting(polygons, polygonAddress, rings.length - 1, "polygonOffsets");
     }
 
@@ -429,8 +436,8 @@ class IShape {
         const kind = kindOf(contour);
         return borrow(this.#exports, (loan) => {
             const given = new Given(loan, contour, kind);
-            const out = loan.take(byteLengthOf(contour));
-            const left = this.#answered(this.#call(name, kind)(...given.words, out, countOf(contour)), given);
+            const out = loan.take(given.bytes);
+            const left = this.#answered(this.#call(name, kind)(...given.words, out, given.count), given);
             return loan.read(kind.Points, out, 2 * left);
         });
     }
@@ -464,7 +471,7 @@ class IShape {
                 const count = this.#answered(this.#call(name, kind)(...given.words, out, room), given);
                 return count > room ? list(count) : contactsOf(loan.read(Uint32Array, out, 2 * count));
             };
-            return list(countOf(points));
+            return list(given.count);
         });
     }
 
@@ -487,9 +494,9 @@ class IShape {
         if (kindOf(about) !== kind) throw new TypeError("the points asked about are of another type");
         const dividing = Object.entries(offsets).map(([its, each]) => asOffsets(each, its));
         return borrow(this.#exports, (loan) => {
-            const count = lengthOf(about) / 2;
             const given = new Given(loan, points, kind, ...dividing);
             const asked = new Given(loan, about, kind);
+            const { count } = asked;
             const out = loan.take(bytes * count);
             const answer = this.#call(name, kind)(...given.words, ...asked.words, ...rule, out, count);
             const unsafe = answer === UNSAFE ? this.#firstUnsafe(asked.address, count, kind) : count;
@@ -519,10 +526,10 @@ class IShape {
         const kind = kindOf(points);
         return borrow(this.#exports, (loan) => {
             const given = this.#givenRings(loan, points, kind, offsets, polygons);
-            const out = loan.take(byteLengthOf(points));
+            const out = loan.take(given.bytes);
             const { length } = given.offsets[0];
             const outOffsets = loan.take(4 * length);
-            const left = this.#answered(this.#call(name, kind)(...given.words, out, countOf(points), outOffsets, length), given);
+            const left = this.#answered(this.#call(name, kind)(...given.words, out, given.count, outOffsets, length), given);
             return { points: loan.read(kind.Points, out, 2 * left), offsets: loan.read(Uint32Array, outOffsets, length) };
         });
     }
@@ -533,11 +540,11 @@ class IShape {
         const polygons = asOffsets(polygonOffsets, "polygonOffsets");
         return borrow(this.#exports, (loan) => {
             const given = new Given(loan, points, kind, rings, polygons);
-            const out = loan.take(byteLengthOf(points));
+            const out = loan.take(given.bytes);
             const outRings = loan.take(4 * rings.length);
             const outPolygons = loan.take(4 * polygons.length);
             const left = this.#answered(this.#call(name, kind)(
-                ...given.words, out, countOf(points), outRings, rings.length, outPolygons, polygons.length), given);
+                ...given.words, out, given.count, outRings, rings.length, outPolygons, polygons.length), given);
             const leftPolygons = loan.read(Uint32Array, outPolygons, left + 1);
             const leftRings = loan.read(Uint32Array, outRings, leftPolygons[left] + 1);
             return { points: loan.read(kind.Points, out, 2 * leftRings.at(-1)), ringOffsets: leftRings, polygonOffsets: leftPolygons };

@@ -1,5 +1,4 @@
 /** The module's memory. An address is a number of 32 bits, which comes with a sign. */
-import { byteLengthOf, lengthOf } from "./arrays.js";
 import { OutOfMemoryError } from "./errors.js";
 
 /** The greatest number that the module's addresses and counts have room for. */
@@ -29,10 +28,10 @@ class Loan {
         return new Items(this.#exports.memory.buffer, address >>> 0, length);
     }
 
-    /** Takes a block for points, and copies them there. */
-    copy(points, { Points }) {
-        const address = this.take(byteLengthOf(points));
-        this.#view(Points, address, lengthOf(points)).set(points);
+    /** Takes a block for points, of so many coordinates, and copies them there. If there are more by then, that throws. */
+    copy(points, { Points }, length) {
+        const address = this.take(length * Points.BYTES_PER_ELEMENT);
+        this.#view(Points, address, length).set(points);
         return address;
     }
 

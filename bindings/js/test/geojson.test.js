@@ -51,8 +51,9 @@ describe("GeoJSON", () => {
                 }
                 const polygons = fromGeoJson(given, options);
                 assert.deepEqual(polygons.points, Points.of(number(k), number(k)), line);
-                const [[[[there]]]] = toGeoJson(polygons, { step: Number(step) }).coordinates;
-                if (back !== "-") assert.ok(Object.is(there, Number(back)), line);
+                const there = () => toGeoJson(polygons, { step: Number(step) }).coordinates[0][0][0][0];
+                if (back === "-") assert.throws(there, { name: "RangeError" }, line);
+                else assert.ok(Object.is(there(), Number(back)), line);
             }
         }
     });
@@ -109,6 +110,8 @@ describe("GeoJSON", () => {
         ["a ring that is a BigInt", { type: "Polygon", coordinates: [3n] }, /"3n" is no list of positions/],
         ["a ring with a hole", { type: "Polygon", coordinates: [[, [1, 1]]] }, /undefined is no position/],
         ["a polygon with a hole in its list", { type: "Polygon", coordinates: [, [[1, 1]]] }, /undefined is no list of positions/],
+        ["a feature within a feature", { type: "Feature", geometry: { type: "Feature", geometry: null } }, /a Feature is no polygon/],
+        ["a feature within a collection", { type: "GeometryCollection", geometries: [{ type: "Feature", geometry: null }] }, /a Feature is no polygon/],
         ["a position within itself", { type: "Polygon", coordinates: [[cycle]] }, /\[object Array\] is no position/],
     ]) {
         test(`${name} isn't read`, () => {
@@ -168,6 +171,9 @@ describe("cleanFeatures", async () => {
         assert.deepEqual(shapes.cleanFeatures(wide, { step: 1e-9, call: "simplify" }).coordinates, [[[0, 0], [180, 0], [180, 90], [0, 0]]]);
         const far = { type: "Polygon", coordinates: [[[0, 0], [1e300, 0], [1, 1]]] };
         assert.throws(() => shapes.cleanFeatures(far, { step: 1, call: "simplify" }), { name: "UnsafePointError", point: 1 });
+        // 1.7 steps are rounded to two, which are more than a number holds
+        const farther = { type: "Polygon", coordinates: [[[0, 0], [1.7e308, 0], [0, 1e308]]] };
+        assert.throws(() => shapes.cleanFeatures(farther, { step: 1e308, call: "simplify" }), { name: "RangeError", message: /2 steps of 1e\+308 are no finite number/ });
     });
 
     test("a feature that collapses", () => {

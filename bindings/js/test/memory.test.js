@@ -59,7 +59,7 @@ function wrongCallsOf(shapes, { Points, limit, points }) {
 test("an address of 32 bits from 2^31 on comes with a sign", () => {
     const buffer = new ArrayBuffer(2 ** 31 + 8);
     const exports = { memory: { buffer }, i_shape_take: () => -(2 ** 31), i_shape_give() {} };
-    borrow(exports, (loan) => loan.copy(Int32Array.of(7, 9), { Points: Int32Array }));
+    borrow(exports, (loan) => loan.copy(Int32Array.of(7, 9), { Points: Int32Array }, 2));
     assert.deepEqual(new Int32Array(buffer, 2 ** 31), Int32Array.of(7, 9));
 });
 
