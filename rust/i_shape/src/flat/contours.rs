@@ -198,8 +198,8 @@ impl<'a, I: IntNumber> Contours<'a, I> {
             Ok(are_filled)
         }
 
-        /// Returns where each of the points lies, by a fill rule: also whether on an edge, for which
-        /// it looks at each edge until it finds one that the point lies on.
+        /// Returns where each of the points lies, by a fill rule: also whether on an edge, which
+        /// takes longer than [`contains_points`](Contours::contains_points) does.
         locate, must_use;
         /// Returns the errors of [`try_winding_numbers`](Contours::try_winding_numbers).
         pub fn try_locate(

@@ -15,7 +15,8 @@ pub type IntPaths<I> = Vec<IntPath<I>>;
 
 /// Tests of a contour as a whole, and its winding numbers about points.
 ///
-/// Calls about many points take memory for their results, the others none.
+/// Calls about many points need memory for their results, the others none. Where there is more,
+/// they and `is_on_boundary` take it, and are faster.
 ///
 /// ```
 /// use i_shape::{FillRule, Location, int::IntPoint, int::path::ContourExtension, int_path};
@@ -79,8 +80,8 @@ pub trait ContourExtension<I: IntNumber> {
         /// Returns the errors of [`try_winding_number`](ContourExtension::try_winding_number).
         fn try_is_on_boundary(&self, point: IntPoint<I>) -> Result<bool, Error>;
 
-        /// Returns where each of the points lies, by a fill rule: also whether on an edge, for which
-        /// it looks at each edge until it finds one that the point lies on.
+        /// Returns where each of the points lies, by a fill rule: also whether on an edge, which
+        /// takes longer than [`contains_points`](ContourExtension::contains_points) does.
         locate, must_use;
         /// Returns the errors of [`try_winding_numbers`](ContourExtension::try_winding_numbers).
         fn try_locate(&self, points: &[IntPoint<I>], rule: FillRule) -> Result<Vec<Location>, Error>;

@@ -299,10 +299,10 @@ macro_rules! contour_point {
             );
             // by value, and of whole patterns, as below
             const fn _coordinates(point: $point) -> [$number; 2] {
-                type Given = $point;
-                type Whole = $whole;
-                let Given {
-                    $field: Whole { $x: x, $y: y },
+                type __Point = $point;
+                type __Whole = $whole;
+                let __Point {
+                    $field: __Whole { $x: x, $y: y },
                 } = point;
                 [x, y]
             }
@@ -331,8 +331,8 @@ macro_rules! contour_point {
             // by value, and of a whole pattern: a third field, or what is no number of this type,
             // is rejected
             const fn _coordinates(point: $point) -> [$number; 2] {
-                type Given = $point;
-                let Given { $x: x, $y: y } = point;
+                type __Point = $point;
+                let __Point { $x: x, $y: y } = point;
                 [x, y]
             }
         };

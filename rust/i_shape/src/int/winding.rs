@@ -48,8 +48,8 @@ pub trait ShapeExtension<I: IntNumber> {
         /// the shape isn't.
         fn try_is_on_boundary(&self, point: IntPoint<I>) -> Result<bool, Error>;
 
-        /// Returns where each of the points lies, by a fill rule: also whether on an edge, for which
-        /// it looks at each edge until it finds one that the point lies on.
+        /// Returns where each of the points lies, by a fill rule: also whether on an edge, which
+        /// takes longer than `contains_points` does.
         locate, must_use;
         /// Returns [`Error::UnsafeAbout`] if one of these points isn't safe, [`Error::UnsafePoint`] if
         /// one of the shape isn't, [`Error::NoMemory`] if an allocation fails.

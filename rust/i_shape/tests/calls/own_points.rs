@@ -19,9 +19,9 @@ contour_point!(Corner { east, north }: i32);
 /// The fields have no names.
 #[repr(C)]
 #[derive(Clone, Copy, Debug, PartialEq)]
-struct Pair(i64, i64);
+struct Given(i64, i64);
 
-contour_point!(Pair { 0, 1 }: i64);
+contour_point!(Given { 0, 1 }: i64);
 
 /// The coordinates' type is a parameter.
 #[repr(C)]
@@ -101,7 +101,7 @@ fn named_fields() {
 
 #[test]
 fn fields_without_names() {
-    cleaned(|x, y| Pair(x.into(), y.into()));
+    cleaned(|x, y| Given(x.into(), y.into()));
 }
 
 #[test]
