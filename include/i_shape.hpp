@@ -313,13 +313,27 @@ typename CallsFor<Point>::Point *write(std::vector<Point> &points) noexcept {
 
 using Offsets = Span<const std::size_t>;
 
+/* An offset of any type. One that C's has no room for lies above each count, as the greatest of C's does. */
+template <class Offset>
+std::size_t as_offset(Offset offset) noexcept {
+    constexpr std::size_t most = static_cast<std::size_t>(-1);
+    if constexpr (sizeof(Offset) > sizeof most) {
+        if (offset > most) return most;
+    }
+    return static_cast<std::size_t>(offset);
+}
+
 /* Offsets where they lie, or a copy of those that C would read as others. */
 template <class Given>
 auto as_offsets(const Given &given) {
     using Offset = std::remove_cv_t<std::remove_pointer_t<decltype(std::data(given))>>;
     static_assert(std::is_integral_v<Offset> && std::is_unsigned_v<Offset> && !std::is_same_v<Offset, bool>, "i_shape: offsets are of an unsigned type");
     if constexpr (std::is_same_v<Offset, std::size_t>) return Offsets(std::data(given), std::size(given));
-    else return std::vector<std::size_t>(std::data(given), std::data(given) + std::size(given));
+    else {
+        std::vector<std::size_t> all(std::size(given));
+        std::transform(std::data(given), std::data(given) + std::size(given), all.begin(), as_offset<Offset>);
+        return all;
+    }
 }
 
 inline const std::size_t *read_offsets(Offsets offsets) noexcept {
@@ -344,7 +358,7 @@ typename CallsFor<Point>::Point as_c(const Point &point) noexcept {
 /* The place of the first point from first on, and before end, that isn't safe. */
 template <class Points>
 std::optional<std::size_t> first_unsafe(const Points &points, std::size_t first, std::size_t end) noexcept {
-    const std::size_t place = first + CallsOf<Points>::first_unsafe(read(points) + first, end - first);
+    const std::size_t place = first + CallsOf<Points>::first_unsafe(detail::read(points) + first, end - first);
     return place < end ? std::optional(place) : std::nullopt;
 }
 
@@ -453,7 +467,7 @@ std::vector<Point> room_for(std::size_t count) {
 template <class Points, class Call>
 std::size_t clean_into(Call call, const Points &points, Span<PointOf<Points>> out) {
     using Point = typename CallsOf<Points>::Point;
-    const std::ptrdiff_t answer = call(read(points), std::size(points), address<Point>(out.data()), out.size());
+    const std::ptrdiff_t answer = call(detail::read(points), std::size(points), address<Point>(out.data()), out.size());
     if (answer == I_SHAPE_NO_ROOM) throw no_room(out.size(), std::size(points));
     return count_of(answer, points);
 }
@@ -472,8 +486,8 @@ Contours<PointOf<Points>> clean_contours(Call call, const Points &points, const 
     Contours<PointOf<Points>> left;
     left.points = room_for<PointOf<Points>>(std::size(points));
     left.offsets.resize(offsets.size());
-    left.points.resize(count_of(call(read(points), std::size(points), read_offsets(offsets), offsets.size(), write(left.points), left.points.size(),
-                                     address<std::size_t>(left.offsets.data()), left.offsets.size()), points, offsets));
+    left.points.resize(count_of(call(detail::read(points), std::size(points), read_offsets(offsets), offsets.size(), detail::write(left.points),
+                                     left.points.size(), address<std::size_t>(left.offsets.data()), left.offsets.size()), points, offsets));
     return left;
 }
 
@@ -488,9 +502,9 @@ Shapes<PointOf<Points>> clean_shapes(Call call, const Points &points, const Give
     left.points = room_for<PointOf<Points>>(std::size(points));
     left.contours.resize(contours.size());
     left.shapes.resize(shapes.size());
-    const std::size_t count = count_of(call(read(points), std::size(points), read_offsets(contours), contours.size(), read_offsets(shapes),
-                                            shapes.size(), read_offsets(features)..., features.size()..., write(left.points), left.points.size(),
-                                            address<std::size_t>(left.contours.data()), left.contours.size(),
+    const std::size_t count = count_of(call(detail::read(points), std::size(points), read_offsets(contours), contours.size(), read_offsets(shapes),
+                                            shapes.size(), read_offsets(features)..., features.size()..., detail::write(left.points),
+                                            left.points.size(), address<std::size_t>(left.contours.data()), left.contours.size(),
                                             address<std::size_t>(left.shapes.data()), left.shapes.size()), points, contours, shapes, features...);
     left.shapes.resize(count + 1);
     left.contours.resize(left.shapes.back() + 1);
@@ -568,15 +582,15 @@ Contours<PointOf<Points>> form_polygons(Call call, const Points &points, const G
     Contours<PointOf<Points>> forms;
     forms.points = room_for<PointOf<Points>>(std::size(points));
     forms.offsets.resize(contours.size());
-    forms.points.resize(count_of(call(read(points), std::size(points), read_offsets(contours), contours.size(), read_offsets(shapes), shapes.size(),
-                                      write(forms.points), forms.points.size(), address<std::size_t>(forms.offsets.data()), forms.offsets.size()),
-                                 points, contours, shapes));
+    forms.points.resize(count_of(call(detail::read(points), std::size(points), read_offsets(contours), contours.size(), read_offsets(shapes),
+                                      shapes.size(), detail::write(forms.points), forms.points.size(), address<std::size_t>(forms.offsets.data()),
+                                      forms.offsets.size()), points, contours, shapes));
     return forms;
 }
 
 template <class Points, class Call>
 bool test(Call call, const Points &points) {
-    return count_of(call(read(points), std::size(points)), points) != 0;
+    return count_of(call(detail::read(points), std::size(points)), points) != 0;
 }
 
 /* An item of each contour, by a call that returns 0. */
@@ -585,7 +599,8 @@ std::vector<Item> measure_contours(Call call, const Points &points, const Given 
     const auto all = as_offsets(given);
     const Offsets offsets = all;
     std::vector<Item> items(offsets.size() == 0 ? 0 : offsets.size() - 1);
-    count_of(call(read(points), std::size(points), read_offsets(offsets), offsets.size(), address<Item>(items.data()), items.size()), points, offsets);
+    count_of(call(detail::read(points), std::size(points), read_offsets(offsets), offsets.size(), address<Item>(items.data()), items.size()), points,
+             offsets);
     return items;
 }
 
@@ -596,8 +611,8 @@ std::vector<Item> tell_points(Call call, const Points &points, const Given &give
     const auto all = as_offsets(given);
     const Offsets offsets = all;
     std::vector<Item> items(std::size(about));
-    const std::ptrdiff_t answer = call(read(points), std::size(points), read_offsets(offsets), offsets.size(), read(about), std::size(about), rule,
-                                       address<Item>(items.data()), items.size());
+    const std::ptrdiff_t answer = call(detail::read(points), std::size(points), read_offsets(offsets), offsets.size(), detail::read(about),
+                                       std::size(about), rule, address<Item>(items.data()), items.size());
     if (answer == I_SHAPE_UNSAFE) check_asked(about);
     count_of(answer, points, offsets);
     return items;
@@ -695,7 +710,7 @@ Shapes<PointOf<Points>> remove_spikes(const Points &points, const Offsets &conto
 template <class Points, class Offsets, class ShapeOffsets>
 [[deprecated("its name is remove_spikes")]]
 Shapes<PointOf<Points>> despike_shapes(const Points &points, const Offsets &contours, const ShapeOffsets &shapes) {
-    return remove_spikes(points, contours, shapes);
+    return i_shape::remove_spikes(points, contours, shapes);
 }
 
 template <class Points, class Offsets, class ShapeOffsets>
@@ -956,7 +971,7 @@ std::vector<Contact> contacts_of_rings(const Points &points, const Offsets &offs
  * std::out_of_range where there is no such point. */
 template <class Points, class Contacts>
 std::vector<ContactKind> kinds_of_contacts(const Points &points, const Contacts &contacts) {
-    const std::size_t whole[] = {0, std::size(points)};
+    const std::size_t whole[] = {0, static_cast<std::size_t>(std::size(points))};
     return detail::kinds_of<Points>(detail::edges_of(points, whole, contacts), points);
 }
 
@@ -1058,8 +1073,8 @@ std::vector<std::vector<Point>> nested(const Contours<Point> &all) {
 /* The winding numbers of such contours. */
 template <class Point, class A, class B, class About>
 std::vector<std::ptrdiff_t> windings(const std::vector<std::vector<Point, A>, B> &contours, const About &about) {
-    const auto all = flat(contours);
-    return windings(all.points, all.offsets, about);
+    const auto all = i_shape::flat(contours);
+    return i_shape::windings(all.points, all.offsets, about);
 }
 
 /* Polygons, each a vector of contours, end to end, and back. */
@@ -1079,7 +1094,7 @@ Shapes<Point> flat(const std::vector<std::vector<std::vector<Point, A>, B>, C> &
 
 template <class Point>
 std::vector<std::vector<std::vector<Point>>> nested(const Shapes<Point> &all) {
-    const auto contours = nested(Contours<Point>{all.points, all.contours});
+    const auto contours = i_shape::nested(Contours<Point>{all.points, all.contours});
     std::vector<std::vector<std::vector<Point>>> shapes;
     for (std::size_t k = 0; k + 1 < all.shapes.size(); k++)
         shapes.emplace_back(contours.data() + all.shapes[k], contours.data() + all.shapes[k + 1]);
