@@ -282,7 +282,7 @@ static bool place_of(const bytea *wkb, Grid grid, i_shape_point_i64 *place, int3
     if (isnan(xy[0]) && isnan(xy[1])) return false;
     if (!to_grid(xy, grid, place))
         ereport(ERROR, errcode(ERRCODE_NUMERIC_VALUE_OUT_OF_RANGE),
-                errmsg("i_shape: the point (%s, %s) is 2^49 steps or more from 0, or isn't finite", double_to_shortest_decimal(xy[0]),
+                errmsg("i_shape: the point (%s, %s) is 2^49 steps or more from 0, isn't finite, or rounds to no float", double_to_shortest_decimal(xy[0]),
                        double_to_shortest_decimal(xy[1])));
     return true;
 }

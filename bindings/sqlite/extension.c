@@ -305,7 +305,7 @@ static bool place_of(Call *call, sqlite3_value *point, Grid grid, i_shape_point_
     if (to_grid(xy, grid, place)) return true;
     put_float(xy[0], x);
     put_float(xy[1], y);
-    end_with_error(call, "i_shape: the point (%s, %s) is 2^49 steps or more from 0, or isn't finite", x, y);
+    end_with_error(call, "i_shape: the point (%s, %s) is 2^49 steps or more from 0, isn't finite, or rounds to no float", x, y);
 }
 
 static void count_windings(Call *call, int count, sqlite3_value **values) {

@@ -38,7 +38,7 @@ static void move_places(i_shape_contact *contacts, size_t count, size_t by) {
 size_t list_contacts(const Geometry *geometry, Pause pause, size_t *offsets, i_shape_contact *out, size_t room) {
     size_t count = 0, written = 0;
     for (const Polygon *polygon = geometry->polygons; polygon < geometry->polygons + geometry->counts.polygons; polygon++) {
-        take_pause(pause);
+        take_pauses(pause, polygon);
         size_t its = contacts_of_polygon(polygon, offsets, out + written, room - written), fit = its < room - written ? its : room - written;
         move_places(out + written, fit, (size_t)(polygon->rings->points - geometry->points));
         count += its;

@@ -15,8 +15,8 @@ static inline void take_pause(Pause pause) {
     pause.call(pause.host);
 }
 
-/* The points of a contact take as long to be found as many are to be read. */
-enum { PAUSE_POINTS = 1 << 16, PAUSE_CONTACTS = 1 << 10 };
+/* The points of a contact take as long to be found as many are to be read. Of a polygon in which contacts are looked for, so many points count as a ring. */
+enum { PAUSE_POINTS = 1 << 16, PAUSE_CONTACTS = 1 << 10, PAUSE_TESTED = 1 << 8 };
 
 /* Whole numbers among floats, by the rule of docs/DATA.md, "Keys". steps_to_one is 0 where no whole number of steps
  * makes 1. Numbers of steps lie strictly between -limit and limit: 2^49, or less where more steps lead beyond the floats. */
@@ -30,11 +30,18 @@ typedef struct {
     size_t count;
 } Ring;
 
-/* The outer ring and the holes. */
+/* The outer ring and the holes. Of a polygon that was read, number is its place from 1 on among all of the geometry, those without a ring too. */
 typedef struct {
     Ring *rings;
-    size_t count;
+    size_t count, number;
 } Polygon;
+
+/* A pause before contacts are looked for in a polygon, which has a ring, and one more for each so many points: that may take quadratic time. */
+static inline void take_pauses(Pause pause, const Polygon *polygon) {
+    const Ring *last = polygon->rings + polygon->count - 1;
+    size_t points = (size_t)(last->points - polygon->rings->points) + last->count;
+    for (size_t k = 0; k <= points / PAUSE_TESTED; k++) take_pause(pause);
+}
 
 typedef struct {
     size_t points, rings, polygons;

@@ -276,7 +276,7 @@ static bool walk_polygon(Reader *from) {
     uint32_t count;
     take_pause(from->pause);
     if (!next_number(from, &count)) return false;
-    if (to) to->polygons[to->counts.polygons] = (Polygon){to->rings + to->counts.rings, 0};
+    if (to) to->polygons[to->counts.polygons] = (Polygon){to->rings + to->counts.rings, 0, from->counts.polygons + 1};
     for (uint32_t k = 0; k < count; k++)
         if (!walk_ring(from)) return false;
     if (to && count > 0) to->counts.polygons++;

@@ -92,6 +92,8 @@ SELECT name, got FROM (VALUES
      'polygon 1, ring 1: edge 4 from (0, 4) meets edge 1 of ring 2 from (0, 1)'),
     ('a valid polygon behind a crossing', i_shape_validity_reason('MULTIPOLYGON(((0 0,4 4,4 0,0 4,0 0)),((9 9,8 9,9 8,9 9)))', 1),
      'polygon 1, ring 1: edge 1 from (0, 0) meets edge 3 from (4, 0)'),
+    ('a crossing behind an EMPTY part', i_shape_validity_reason('MULTIPOLYGON(EMPTY,((0 0,4 4,4 0,0 4,0 0)))', 1),
+     'polygon 2, ring 1: edge 1 from (0, 0) meets edge 3 from (4, 0)'),
     ('another fault behind a crossing', i_shape_validity_reason('MULTIPOLYGON(((0 0,4 4,4 0,0 4,0 0)),((9 9,9 9,9 9,9 9)))', 1),
      'polygon 1, ring 1: edge 1 from (0, 0) meets edge 3 from (4, 0)'),
     ('what is smaller than a step', i_shape_validity_reason('POLYGON((0 0,4 0,4 4,0 0),(2.9 1,3.1 1,3.1 1.1,2.9 1))', 1),

@@ -56,7 +56,7 @@ SELECT statement, error_of(statement) FROM (VALUES
     ($$ i_shape_simplify('MULTIPOLYGON(EMPTY,((0 0,4 0,4 4,0 0)),((0 0,4 0,4 4,0 0),(1 1,2 1,2 1e300,1 1)))', 1) $$, '22003 / i_shape: polygon 3, ring 2, point 3: y is 1e+300, 2^49 steps or more from 0'),
     ($$ i_shape_key(ST_MakePolygon(ST_MakeLine(ARRAY[ST_Point(0,0), ST_Point(4,0), ST_Point('NaN',4), ST_Point(0,0)])), 1) $$, '22003 / i_shape: polygon 1, ring 1, point 3: x is NaN, which isn''t finite'),
     ($$ i_shape_despike(ST_MakePolygon(ST_MakeLine(ARRAY[ST_Point(0,0), ST_Point(4,0), ST_Point(4,'-Infinity'), ST_Point(0,0)])), 1) $$, '22003 / i_shape: polygon 1, ring 1, point 3: y is -Infinity, which isn''t finite'),
-    ($$ i_shape_winding('POLYGON((0 0,4 0,4 4,0 0))', ST_Point('NaN', 1), 1) $$, '22003 / i_shape: the point (NaN, 1) is 2^49 steps or more from 0, or isn''t finite'),
+    ($$ i_shape_winding('POLYGON((0 0,4 0,4 4,0 0))', ST_Point('NaN', 1), 1) $$, '22003 / i_shape: the point (NaN, 1) is 2^49 steps or more from 0, isn''t finite, or rounds to no float'),
     ($$ i_shape_wkb_key('', 1) $$, '22P03 / i_shape: not a geometry: it ends too soon'),
     ($$ i_shape_wkb_key('\x05', 1) $$, '22P03 / i_shape: not a geometry: its byte order is neither 0 nor 1'),
     ($$ i_shape_wkb_key('\x01030000', 1) $$, '22P03 / i_shape: not a geometry: it ends too soon'),

@@ -52,6 +52,7 @@ REASONS = [
     ("POLYGON((0 0,4 0,4 4,0 4,0 0),(0 1,1 1,1 2,0 1))", 1, "polygon 1, ring 1: edge 4 from (0, 4) meets edge 1 of ring 2 from (0, 1)"),
     ("MULTIPOLYGON(((0 0,4 4,4 0,0 4,0 0)),((9 9,8 9,9 8,9 9)))", 1, "polygon 1, ring 1: edge 1 from (0, 0) meets edge 3 from (4, 0)"),
     ("MULTIPOLYGON(((0 0,4 4,4 0,0 4,0 0)),((9 9,9 9,9 9,9 9)))", 1, "polygon 1, ring 1: edge 1 from (0, 0) meets edge 3 from (4, 0)"),
+    ("MULTIPOLYGON(EMPTY,((0 0,4 4,4 0,0 4,0 0)))", 1, "polygon 2, ring 1: edge 1 from (0, 0) meets edge 3 from (4, 0)"),
     ("POLYGON((0 0,4 0,4 4,0 0),(2.9 1,3.1 1,3.1 1.1,2.9 1))", 1, "polygon 1, ring 2: it has fewer than three points, or only equal ones, at (3, 1)"),
     ("POLYGON((0 0,4 0,4 4,0 0),(6 1,6 2,7.1 1,6 1))", 0.1, "polygon 1, ring 2: it is a hole outside the outer ring, at (6, 1)"),
     ("POLYGON((0 0,9 0,9 9,0 9,0 0),(2 2,4 2,4 4,2 2),(1 1,8 1,8 8,1 8,1 1))", 1, "polygon 1, ring 2: it is a hole within ring 3, another hole, at (2, 2)"),

@@ -112,7 +112,7 @@ class ErrorsTest(unittest.TestCase):
             (wkb("POINT(1 1)", srid=7), "the SRID of the polygon is 0, and that of the point 7"),
             (geopackage("POINT(1 1)", 7), "the SRID of the polygon is 0, and that of the point 7"),
             (spatialite("POINT(1 1)", 7), "the SRID of the polygon is 0, and that of the point 7"),
-            (wkb("POINT(NaN 1)"), "the point (NaN, 1) is 2^49 steps or more from 0, or isn't finite"),
+            (wkb("POINT(NaN 1)"), "the point (NaN, 1) is 2^49 steps or more from 0, isn't finite, or rounds to no float"),
         ]:
             self.assertEqual(self.error_of("winding(?, ?, 1)", TRIANGLE, point), f"i_shape: {wanted}")
         self.assertEqual(self.error_of("winding(?, ?, 0)", TRIANGLE, wkb("POINT(1 1)")), f"i_shape: step is 0, {A_STEP}")

@@ -139,7 +139,7 @@ static void check_invalidity(const Geometry *given, Grid grid) {
     while (first < given->counts.polygons && faults[first].kind == I_SHAPE_VALID) first++;
     bool is_valid = first == given->counts.polygons;
     must(is_valid == (found.kind == I_SHAPE_VALID), "it is valid for one alone");
-    if (!is_valid) must(found.polygon == first + 1 && found.kind == faults[first].kind, "another fault than the first");
+    if (!is_valid) must(found.polygon == given->polygons[first].number && found.kind == faults[first].kind, "another fault than the first");
     free(offsets);
     free(ends);
     free(faults);
@@ -295,7 +295,7 @@ static void check_pauses(void) {
     take_block(&given, counts);
     for (size_t k = 0; k < counts.points; k++) given.points[k] = (i_shape_point_i64){(int64_t)k, (int64_t)(k % 2)};
     given.rings[0] = (Ring){given.points, counts.points};
-    given.polygons[0] = (Polygon){given.rings, 1};
+    given.polygons[0] = (Polygon){given.rings, 1, 1};
     Block wkb = {block_of(wkb_size(&given)), wkb_size(&given)};
     write_wkb(&given, grid, count_pause, wkb.at);
     must_have_paused(4);
@@ -319,7 +319,7 @@ static void check_pauses(void) {
     size_t offsets[2];
     Invalidity found;
     must(find_invalidity(&form, count_pause, offsets, &found), "no memory");
-    must_have_paused(1);
+    must_have_paused(counts.points / PAUSE_TESTED + 1);
     check_pauses_of_contacts(&form, grid);
     free(given.points);
     free(again.points);
