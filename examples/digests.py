@@ -14,14 +14,16 @@ from __future__ import annotations
 import argparse
 import hashlib
 import sys
+from itertools import islice
 from typing import Iterator
 
 from i_shape import io
 
 
-def digests(geometries: list[bytes], step: float) -> Iterator[str]:
-    """The digest of each geometry in WKB, as COPY has it."""
-    whole = io.features_to_grid(io.from_wkb(geometries), io.Grid(step))
+def digests(geometries: list[str], step: float) -> Iterator[str]:
+    """The digest of each geometry; both are as COPY has them."""
+    features = io.from_wkb([None if it == r"\N" else bytes.fromhex(it) for it in geometries])
+    whole = io.features_to_grid(features, io.Grid(step))
     for key in io.feature_keys(whole):
         yield rf"\\x{hashlib.sha256(key).hexdigest()}" if key else r"\N"
 
@@ -31,10 +33,14 @@ def main() -> None:
     words.add_argument("--step", type=float, required=True,
                        help="the step of the grid, in the geometries' unit")
     step = words.parse_args().step
-    rows = [line.rstrip("\n").split("\t") for line in sys.stdin]
-    found = digests([bytes.fromhex(geometry) for _, geometry in rows], step)
-    for (identifier, _), digest in zip(rows, found):
-        print(identifier, digest, sep="\t")
+    rows = (line.rstrip("\n").split("\t") for line in sys.stdin)
+    while some := list(islice(rows, 10_000)):
+        try:
+            found = list(digests([geometry for _, geometry in some], step))
+        except io.FeatureError as error:
+            sys.exit(f"the row {some[error.feature or 0][0]}: {error}")
+        for (identifier, _), digest in zip(some, found):
+            print(identifier, digest, sep="\t")
 
 
 if __name__ == "__main__":
