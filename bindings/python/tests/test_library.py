@@ -1,5 +1,6 @@
 """The name of the C library, by the system that Python says it runs on."""
 
+import ctypes
 import os
 import shutil
 import subprocess
@@ -7,6 +8,7 @@ import sys
 import tempfile
 import unittest
 from pathlib import Path
+from unittest import mock
 
 from i_shape import _library
 
@@ -34,3 +36,8 @@ class Names(unittest.TestCase):
                     env={**os.environ, "I_SHAPE_C_DIR": folder},
                     stdout=subprocess.PIPE, text=True).stdout
                 self.assertEqual(told, f"{file} 1\n")
+
+    def test_a_python_of_32_bits(self):
+        with mock.patch.object(ctypes, "sizeof", lambda _: 4), \
+                self.assertRaisesRegex(ImportError, "64 bits"):
+            _library._load()

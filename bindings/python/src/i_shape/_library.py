@@ -64,6 +64,9 @@ def _path() -> Path:
 
 
 def _load() -> ctypes.CDLL:
+    # Offsets are arrays of int64, which the library reads as size_t.
+    if ctypes.sizeof(ctypes.c_size_t) != 8:
+        raise ImportError("i_shape needs a Python of 64 bits")
     # CDLL, and not PyDLL: the interpreter's lock is off during a call.
     library = ctypes.CDLL(str(_path()))
     library.i_shape_version.restype = ctypes.c_uint32
