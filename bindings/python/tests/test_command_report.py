@@ -141,6 +141,20 @@ collapsed: feature 2, polygon 1, ring 0
                              list("abcde"))
         self.assertEqual(error.getvalue(), "read: 2 of 5\nread: 4 of 5\n")
 
+    def test_progress_where_standard_error_can_not_be_written(self):
+        full = mock.Mock(write=mock.Mock(side_effect=OSError("no room")))
+        strange = mock.Mock(tqdm=mock.Mock(side_effect=AttributeError))
+        for error, tqdm in ((None, None), (None, strange), (full, None)):
+            times, out = iter([0, 1, 2]), text_io.StringIO()
+            with mock.patch.dict(sys.modules, {"tqdm": tqdm}), \
+                    mock.patch.object(time, "monotonic",
+                                      lambda: next(times)), \
+                    mock.patch.object(sys, "stderr", error), \
+                    contextlib.redirect_stdout(out):
+                self.assertEqual(list(progress.track("ab", "read")),
+                                 list("ab"))
+            self.assertEqual(out.getvalue(), "")
+
     def test_progress_is_that_of_tqdm_where_it_is(self):
         shown = mock.MagicMock()
         shown.tqdm.return_value.__enter__.return_value = shown.bar

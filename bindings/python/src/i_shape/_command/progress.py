@@ -4,6 +4,7 @@ from __future__ import annotations
 
 import sys
 import time
+from contextlib import suppress
 from types import TracebackType
 from typing import Any, Iterable, Iterator, Optional, Type, TypeVar
 
@@ -24,7 +25,14 @@ class Lines:
         now = time.monotonic()
         if now - self._told >= 1:
             self._told = now
-            print(f"{self._stage}: {self._done}{self._of}", file=sys.stderr)
+            self._tell()
+
+    def _tell(self) -> None:
+        """Print it where that can be read."""
+        if sys.stderr is not None:  # as where it was closed from the start
+            with suppress(OSError):
+                print(f"{self._stage}: {self._done}{self._of}",
+                      file=sys.stderr)
 
     def __enter__(self) -> Lines:
         return self
@@ -37,6 +45,8 @@ class Lines:
 
 def bar(stage: str, total: Optional[int] = None) -> Any:
     """What shows a stage: tqdm's where it is there."""
+    if sys.stderr is None:  # where tqdm fails
+        return Lines(stage, total)
     try:
         from tqdm import tqdm
     except ImportError:
