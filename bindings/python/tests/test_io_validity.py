@@ -196,6 +196,17 @@ class Checked(CommandCase):
                 self.assertEqual(written["crs"], crs)
                 self.assertEqual(len(written["features"]), len(crossed))
 
+    def test_the_points_have_the_crs_of_a_lone_geometry_or_feature(self):
+        crs = {"type": "name", "properties": {"name": "EPSG:25832"}}
+        crossed = samples.polygon([(0, 0), (4, 4), (4, 0), (0, 4)])
+        for document in (crossed, {"type": "Feature", "geometry": crossed}):
+            self.write({**document, "crs": crs})
+            self.run_command("check", self.given, "--step", "1", "--to",
+                             self.out, status=1)
+            written = json.loads(self.out.read_text())
+            self.assertEqual(written["crs"], crs)
+            self.assertEqual(len(written["features"]), 1)
+
     def test_others_are_left_out_or_errors(self):
         self.write(samples.geojson({"type": "Point", "coordinates": [0, 0]},
                                    samples.polygon(samples.SQUARE)))

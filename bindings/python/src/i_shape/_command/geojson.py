@@ -20,14 +20,18 @@ _COORDINATES = re.compile(_NAME + r'[ \t\n\r]*:[ \t\n\r]*'
 FEATURE = '{"type": "Feature", "properties": null, "geometry": ', "}"
 
 
-def collection_frame(crs: Optional[str] = None) -> tuple[str, str]:
+def crs_text(name: str) -> str:
+    """The member that names a CRS for GDAL and QGIS; RFC 7946 has none."""
+    named = {"type": "name", "properties": {"name": name}}
+    return f'"crs": {json.dumps(named)}'
+
+
+def collection_frame(crs: str = "") -> tuple[str, str]:
     """What comes before the features of a new collection, and behind them.
 
-    A CRS is named as GDAL and QGIS name it, though RFC 7946 has no such
-    member.
+    The text of a member ``crs`` may be among it.
     """
-    named = {"type": "name", "properties": {"name": crs}}
-    member = f' "crs": {json.dumps(named)},' if crs else ""
+    member = f" {crs}," if crs else ""
     return f'{{"type": "FeatureCollection",{member} "features": [\n', "\n]}\n"
 
 
@@ -111,13 +115,14 @@ class Document:
 
     ``head``, which comes before the features, is known with the first one,
     and ``tail`` at the end. A lone geometry becomes a feature if it is told
-    that features are needed.
+    that features are needed. ``crs`` is the text of that member of a lone
+    feature or geometry.
     """
 
     def __init__(self, file: TextIO, needs_features: bool) -> None:
         self._pieces = Pieces(file)
         self._needs_features = needs_features
-        self.head, self.tail = "", "\n"
+        self.head, self.tail, self.crs = "", "\n", ""
 
     def records(self) -> Iterator[Record]:
         pieces = self._pieces
@@ -163,6 +168,8 @@ class Document:
 
     def _lone_record(self, members: Members) -> Record:
         """The record of a feature or a geometry that isn't in a list."""
+        if "crs" in members:
+            self.crs = members["crs"].text
         if members.value("type") == "Feature":
             return _feature_record(0, members)
         around = FEATURE if self._needs_features else ("", "")

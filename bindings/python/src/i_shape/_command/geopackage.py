@@ -20,7 +20,7 @@ from ..io import FeatureError, Features, _wkb, from_wkb, to_wkb
 from ..io._builder import Builder, short
 from ..io._features import Checked
 from .blocks import Block, in_blocks
-from .geojson import collection_frame
+from .geojson import collection_frame, crs_text
 from .progress import track
 
 _POLYGONS = {"GEOMETRY", "GEOMETRYCOLLECTION", "SURFACE", "CURVEPOLYGON",
@@ -292,8 +292,8 @@ class GeoPackage:
             "CASE WHEN upper(organization) <> 'NONE' THEN"
             " upper(organization) || '::' || organization_coordsys_id END")
         code = codes.pop() if len(codes) == 1 else None
-        return collection_frame(f"urn:ogc:def:crs:{code}" if code
-                                and code != "EPSG::4326" else None)
+        return collection_frame(crs_text(f"urn:ogc:def:crs:{code}") if code
+                                and code != "EPSG::4326" else "")
 
     def blocks(self) -> Iterator[Block]:
         for layer in self._layers:

@@ -102,9 +102,14 @@ class TextPair:
         return collection_frame()
 
     def collection(self) -> tuple[str, str]:
-        """The frame of a collection, with the members that this text has."""
+        """The frame of a collection, with the members that this text has.
+
+        Of those of a lone feature or geometry it has the CRS alone.
+        """
         head, tail = self._frame()
-        return (head, tail) if head else collection_frame()
+        if head:
+            return head, tail
+        return collection_frame(self._document.crs if self._document else "")
 
     def end(self) -> None:
         """Write what comes behind the features.
