@@ -12,6 +12,7 @@ import subprocess
 import sys
 import textwrap
 import unittest
+import warnings
 from unittest import mock
 
 import samples
@@ -119,6 +120,17 @@ class Errors(CommandCase):
                 told = self.assert_nothing_is_written(
                     "despike", path, self.out, "--step", "1")
                 self.assertIn(words, told)
+
+    def test_floats_that_overflow_on_the_way_back(self):
+        path = self.write("POLYGON EMPTY\nPOLYGON ((0 0, 1.7e308 0,"
+                          " 1.7e308 1.7e308, 0 0))\n", "a.wkt")
+        words = "--step", "1e308"
+        with warnings.catch_warnings():
+            warnings.simplefilter("error")
+            told = self.assert_nothing_is_written("simplify", path, self.out,
+                                                  *words)
+        self.assertIn("line 2: feature 1, polygon 0, ring 0, point 1: the"
+                      " point is (inf, 0.0)", told)
 
     def test_bytes_that_are_no_text(self):
         self.given.write_bytes(b'{"type": "\xff"}')

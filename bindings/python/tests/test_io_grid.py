@@ -233,6 +233,9 @@ class Grids(unittest.TestCase):
                 samples.lists(given))
         with self.assertRaises(i_shape.OffsetsError):
             io.features_from_grid(whole._replace(feature_offsets=[3]), grid)
+        with self.assertRaisesRegex(io.FeatureError, "feature 0, polygon 0,"
+                                    r" ring 0, point 0: .*\(-inf, 0.0\)"):
+            io.features_from_grid(whole, io.Grid(1e306))
 
 
 class Closing(unittest.TestCase):

@@ -3,6 +3,7 @@
 import json
 import random
 import unittest
+import warnings
 
 import numpy as np
 
@@ -206,6 +207,15 @@ class Checked(CommandCase):
             written = json.loads(self.out.read_text())
             self.assertEqual(written["crs"], crs)
             self.assertEqual(len(written["features"]), 1)
+
+    def test_no_point_is_written_that_overflows_on_the_way_back(self):
+        path = self.write("POLYGON ((0 0, 1.7e308 1.7e308, 1.7e308 0,"
+                          " 1.7e308 1.7e308, 0 0))", "a.wkt")
+        with warnings.catch_warnings():
+            warnings.simplefilter("ignore")
+            told, _ = self.run_command("check", path, "--step", "1e308",
+                                       "--to", self.out, status=1)
+        self.assertEqual((told, self.out.exists()), ("", False))
 
     def test_others_are_left_out_or_errors(self):
         self.write(samples.geojson({"type": "Point", "coordinates": [0, 0]},

@@ -201,7 +201,8 @@ def _clean(pair: files.Pair, options: argparse.Namespace,
         with block.naming():
             whole = rounded_features(block.features, options.grid)
         left, gone = _cleaned(whole, options)
-        answer = floats_of(left, options.grid)
+        with block.naming():
+            answer = floats_of(left, options.grid)
         collapsed = tally.add(block, answer)
         is_dropped = options.collapsed == "drop"
         pair.write(block, answer, set(collapsed) if is_dropped else set())

@@ -27,7 +27,8 @@ def _points(group: str, fid: int,
 def _write(points: list[dict[str, Any]], frame: tuple[str, str],
            to: Path) -> None:
     head, tail = frame
-    lines = ",\n".join(map(json.dumps, points))
+    # The point where edges meet may overflow on the way back to floats.
+    lines = ",\n".join(json.dumps(one, allow_nan=False) for one in points)
     to.write_text(f"{head}{lines}{tail}", encoding="utf-8")
 
 

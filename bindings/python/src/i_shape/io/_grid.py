@@ -13,7 +13,7 @@ from .._errors import UnsafePointError
 from .._library import CALLS, Array, as_points, bound
 from ._builder import short
 from ._features import (Checked, FeatureError, Features, as_features,
-                        as_plane_points)
+                        as_finite, as_plane_points)
 
 
 def _is_finite(number: float) -> bool:
@@ -279,9 +279,11 @@ def features_from_grid(features: Features, grid: Grid) -> Features:
 
     Raises
     ------
+    FeatureError
+        A float overflows. Also as :func:`to_wkt` does.
     TypeError, ValueError
         As :func:`from_grid` does.
-    OffsetsError, FeatureError
+    OffsetsError
         As :func:`to_wkt` does.
 
     Examples
@@ -300,7 +302,8 @@ def features_from_grid(features: Features, grid: Grid) -> Features:
 def floats_of(features: Checked, grid: Grid) -> Checked:
     """Bring features of whole numbers back to floats.
 
-    A float that overflows isn't looked for.
+    An error names the first point that overflows.
     """
-    return Checked(features.with_points(
-        brought_back(features.polygons.points, grid)))
+    with np.errstate(over="ignore"):
+        points = brought_back(features.polygons.points, grid)
+    return as_finite(features.with_points(points))
