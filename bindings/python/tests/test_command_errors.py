@@ -271,6 +271,24 @@ class Errors(CommandCase):
                 self.assertEqual((run.returncode, run.stderr), (141, b""))
                 self.assertEqual(set(self.folder.iterdir()), before)
 
+    @unittest.skipUnless(os.path.exists("/dev/full"), "there is no /dev/full")
+    def test_a_full_disk_under_the_standard_streams(self):
+        self.write(samples.geojson(samples.polygon(
+            [(0, 0), (4, 4), (4, 0), (0, 4)])))
+        no_room = r"\Ai_shape: \[Errno 28\] .*\n\Z"
+        for words, stream, status, told in (
+                (["check", self.given], "stdout", 1, no_room),
+                (["despike", self.given, "-"], "stdout", 1, no_room),
+                (["despike", self.given, self.out], "stderr", 0, r"\A\Z")):
+            with open("/dev/full", "wb") as full:
+                run = subprocess.run(
+                    [sys.executable, "-m", "i_shape", *words, "--step", "1"],
+                    **{"stdout": subprocess.PIPE, "stderr": subprocess.PIPE,
+                       stream: full}, text=True, check=False,
+                    env={**os.environ, "PYTHONUNBUFFERED": ""})
+            self.assertEqual(run.returncode, status)
+            self.assertRegex(run.stderr or "", told)
+
     def test_a_pipe_is_written_to(self):
         self.write(samples.geojson(samples.polygon(SPIKED)))
         os.mkfifo(self.out)

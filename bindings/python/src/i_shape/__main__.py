@@ -305,6 +305,20 @@ def _stop(number: int, _: Any) -> NoReturn:
     sys.exit(128 + number)
 
 
+def _forget_unwritten() -> None:
+    """Drop what couldn't be written.
+
+    Else Python would try once more at its end, and change the status.
+    """
+    for stream in (sys.stdout, sys.stderr):
+        if stream is None:  # as where it was closed from the start
+            continue
+        try:
+            stream.flush()
+        except OSError:
+            os.dup2(os.open(os.devnull, os.O_WRONLY), stream.fileno())
+
+
 def run() -> NoReturn:
     """Run the command as a program does, which signals may end."""
     gc.disable()  # many lists are made, and no cycles
@@ -312,9 +326,7 @@ def run() -> NoReturn:
         signal.signal(signal.SIGINT, _stop)
     signal.signal(signal.SIGTERM, _stop)
     status = main()
-    if status == _NO_READER and sys.stdout is not None:
-        # Else Python would try once more to write what is left.
-        os.dup2(os.open(os.devnull, os.O_WRONLY), sys.stdout.fileno())
+    _forget_unwritten()
     sys.exit(status)
 
 
