@@ -92,9 +92,11 @@ def polygon(*rings):
 
 
 def heed_interrupts(test):
-    """Let programs that a test starts end by SIGINT.
+    """Let programs that a test starts end by SIGINT and SIGHUP.
 
-    A background job of a script ignores it, and so do its children.
+    A background job of a script ignores the first, and one of nohup the
+    second, and so do its children.
     """
-    test.addCleanup(signal.signal, signal.SIGINT, signal.signal(
-        signal.SIGINT, signal.default_int_handler))
+    for each, handler in ((signal.SIGINT, signal.default_int_handler),
+                          (signal.SIGHUP, signal.SIG_DFL)):
+        test.addCleanup(signal.signal, each, signal.signal(each, handler))

@@ -382,6 +382,7 @@ class Errors(CommandCase):
         """)
         for first, second in ((signal.SIGTERM, signal.SIGINT),
                               (signal.SIGINT, signal.SIGTERM),
+                              (signal.SIGHUP, signal.SIGHUP),
                               (signal.SIGINT, signal.SIGINT)):
             with self.subTest(first=first, second=second), subprocess.Popen(
                     [sys.executable, "-c", program, "simplify", self.given,

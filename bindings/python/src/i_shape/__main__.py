@@ -34,6 +34,7 @@ _SHAPEFILE = (
     "; clean a shapefile as a GeoPackage: ogr2ogr x.gpkg IN.shp && i_shape"
     " despike x.gpkg x.gpkg --step S && ogr2ogr OUT.shp x.gpkg (GeoJSONSeq"
     " would turn its coordinates into degrees)")
+_HANGUP = getattr(signal, "SIGHUP", None)  # which Windows hasn't
 _signals: list[int] = []  # the one that ends the program, if any
 _NO_READER = 128 + 13  # what a shell has for a program that SIGPIPE ends
 
@@ -300,7 +301,7 @@ def _stop(number: int, _: Any) -> NoReturn:
     Another signal doesn't stop that.
     """
     _signals.append(number)
-    for each in (signal.SIGINT, signal.SIGTERM):
+    for each in filter(None, (signal.SIGINT, signal.SIGTERM, _HANGUP)):
         signal.signal(each, lambda *_: None)
     sys.exit(128 + number)
 
@@ -325,6 +326,8 @@ def run() -> NoReturn:
     if signal.getsignal(signal.SIGINT) is signal.default_int_handler:
         signal.signal(signal.SIGINT, _stop)
     signal.signal(signal.SIGTERM, _stop)
+    if _HANGUP and signal.getsignal(_HANGUP) is signal.SIG_DFL:  # not of nohup
+        signal.signal(_HANGUP, _stop)
     status = main()
     _forget_unwritten()
     sys.exit(status)
