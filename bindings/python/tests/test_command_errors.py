@@ -133,10 +133,22 @@ class Errors(CommandCase):
                       " point is (inf, 0.0)", told)
 
     def test_bytes_that_are_no_text(self):
-        self.given.write_bytes(b'{"type": "\xff"}')
-        told = self.assert_nothing_is_written("simplify", self.given,
-                                              self.out, "--step", "1")
-        self.assertIn("can't decode", told)
+        """The error names the byte's place in the file, if it has one."""
+        mark, long = b"\xef\xbb\xbf", b" " * 500_000
+        for text, place in ((b'{"type": "\xff"}', 10),
+                            (mark + b"\xff\n", 3),
+                            (mark + long + b"\xff" + long, 500_003),
+                            (long + b"\xc3", 500_000)):
+            self.given.write_bytes(text)
+            told = self.assert_nothing_is_written("simplify", self.given,
+                                                  self.out, "--step", "1")
+            self.assertEqual(told, f"i_shape: {self.given}: it isn't UTF-8:"
+                             f" byte {place} is {text[place]:#x}\n")
+        run = subprocess.run(
+            [sys.executable, "-m", "i_shape", "simplify", "-", self.out,
+             "--step", "1"], input=text, capture_output=True, check=False)
+        self.assertEqual(run.stderr,
+                         b"i_shape: -: it isn't UTF-8: a byte is 0xc3\n")
 
     def test_random_faults_are_told_of_or_harmless(self):
         numbers = random.Random(2)

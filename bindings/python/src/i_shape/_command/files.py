@@ -41,11 +41,29 @@ def _open(stream: Optional[Any], name: str) -> BinaryIO:
     return file
 
 
-def _given_text(path: Path) -> ContextManager[TextIO]:
+def _given_bytes(path: Path) -> ContextManager[BinaryIO]:
     if path != STANDARD:
-        return open(path, encoding="utf-8-sig")
-    file = _open(sys.stdin, "standard input")
-    return nullcontext(standard_io.TextIOWrapper(file, "utf-8-sig"))
+        return open(path, "rb")
+    return nullcontext(_open(sys.stdin, "standard input"))
+
+
+@contextmanager
+def _given_text(path: Path) -> Iterator[TextIO]:
+    """The text of a file, or of standard input.
+
+    An error names the first byte that isn't UTF-8 by its place in the file.
+    The decoder knows its place among the bytes that were read last.
+    """
+    with _given_bytes(path) as file:
+        try:
+            yield standard_io.TextIOWrapper(file, "utf-8-sig")
+        except UnicodeDecodeError as error:
+            bytes_read, at = error.object, error.start
+            place = "a byte"
+            if file.seekable():
+                place = f"byte {file.tell() - len(bytes_read) + at}"
+            raise ValueError("it isn't UTF-8: "
+                             f"{place} is {bytes_read[at]:#x}") from None
 
 
 def _take_rights(beside: Path, goal: Path) -> None:
