@@ -308,6 +308,10 @@ class Errors(GeoPackageCase):
         self.fill(SQUARE_BLOB)
         self.assert_error("--layer", "none", told="there is no layer 'none'"
                             ": those there are 'parcels'")
+        column = "UPDATE gpkg_geometry_columns SET column_name = ?"
+        self.change(column, "the_geom")
+        self.assert_error(told="layer 'parcels' has no column 'the_geom'")
+        self.change(column, "geom")
         self.change("CREATE VIEW seen AS SELECT * FROM parcels")
         self.change("INSERT INTO gpkg_geometry_columns VALUES"
                     " ('seen', 'geom', 'POLYGON', 4326)")

@@ -248,6 +248,10 @@ class GeoPackage:
             raise ValueError(f"layer {name!r} is "
                              + ("a view, which isn't written to: name others"
                                 " by --layer" if kind else "no table"))
+        if not self._store.execute(
+                "SELECT 1 FROM pragma_table_info(?) WHERE name = ?"
+                " COLLATE NOCASE", (name, column)).fetchone():
+            raise ValueError(f"layer {name!r} has no column {column!r}")
         keys = self._store.execute(
             "SELECT name, upper(type) FROM pragma_table_info(?) WHERE pk > 0",
             (name,)).fetchall()
