@@ -232,6 +232,21 @@ class Cleaned(GeoPackageCase):
         self.assertEqual([its[40:] for its in new], io.to_wkb(polygons(
             [[(0, 0), (8, 0), (8, 8)]])) * 3)
 
+    def test_a_trigger_that_writes_points(self):
+        """Which have no envelope; the bytes of one are high ones first."""
+        self.fill(*[SQUARE_BLOB] * 2)
+        self.change("CREATE TABLE labels (fid INTEGER, name TEXT, geom BLOB)")
+        for fid, one in enumerate((POINT, blob(struct.pack(
+                ">BI3d", 0, 1001, 7, -8, 9)))):
+            self.change("INSERT INTO labels VALUES (?, '', ?)", fid, one)
+        self.fill(layer="gone", kind="POINT")
+        self.change("CREATE TRIGGER other AFTER DELETE ON parcels BEGIN"
+                    " INSERT INTO gone SELECT * FROM labels; END")
+        self.run_clean(call="dedup")
+        self.assertEqual(
+            self.change("SELECT * FROM rtree_gone", path=self.out),
+            [(0, 1, 1, 2, 2), (1, 7, 7, -8, -8)])
+
     def test_equal_features_of_a_layer(self):
         turned = blob(io.to_wkb(polygons([SQUARE[:0:-1] + SQUARE[:1]]))[0])
         self.fill(SPIKED_BLOB, FLAT_BLOB, turned, None, FLAT_BLOB, SQUARE_BLOB)
@@ -335,6 +350,17 @@ class Errors(GeoPackageCase):
                     " SELECT strange(NEW.geom); END")
         self.assert_error(told=f"i_shape: {self.out}: layer 'parcels': no"
                             " such function: strange")
+
+    def test_a_trigger_that_writes_a_line_without_an_envelope(self):
+        self.fill(*[SQUARE_BLOB] * 2)
+        self.fill(layer="gone", kind="LINESTRING")
+        line = blob(struct.pack("<BII4d", 1, 2, 2, 0, 0, 7, 8))
+        self.change("CREATE TABLE labels AS SELECT ? AS geom", line)
+        self.change("CREATE TRIGGER other AFTER DELETE ON parcels BEGIN"
+                    " INSERT INTO gone SELECT 1, '', geom FROM labels; END")
+        self.assert_error(call="dedup", told=f"{self.out}: layer 'parcels': a"
+                          " trigger writes a geometry without an envelope,"
+                          " which is neither a point nor a flat polygon\n")
 
     def test_a_trigger_that_undoes_or_changes_what_was_written(self):
         self.fill(SPIKED_BLOB, SPIKED_BLOB, SQUARE_BLOB)

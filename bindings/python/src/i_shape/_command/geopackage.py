@@ -16,7 +16,7 @@ from typing import (Any, Callable, Collection, Iterator, NamedTuple, Optional,
 
 import numpy as np
 
-from ..io import FeatureError, Features, _wkb, from_wkb, to_wkb
+from ..io import Features, _wkb, from_wkb, to_wkb
 from ..io._builder import Builder, short
 from ..io._features import Checked
 from .blocks import Block, in_blocks
@@ -33,8 +33,12 @@ _GROWTH = 4, 1 << 26  # how many times its size, and bytes more, a file may get
 _CACHE = 1 << 18  # KiB of changed pages before SQLite locks readers out
 _BUSY = 5  # SQLite's code for a file that another program locks
 _LOCKED = "database is locked"  # and its words
+_FAILED = "user-defined function raised exception"  # Python's, of one of ours
 _BOXES, _EMPTY, _EXTENDED = 0x0e, 0x10, 0x20
 _NUMBERS = (struct.Struct(">d").unpack_from, struct.Struct("<d").unpack_from)
+_STARTS = (struct.Struct(">I2d").unpack_from,
+           struct.Struct("<I2d").unpack_from)  # of WKB, behind its order
+_POINT = 1  # and 1000, 2000 or 3000 more with heights or measures
 _FULL_HEAD, _EMPTY_HEAD = b"GP\0\3", b"GP\0\x11"  # with a box; without one
 
 
@@ -112,9 +116,12 @@ def _read(builder: Builder, row: Row) -> None:
     _wkb.read(builder, row.wkb)
 
 
-def _box(blob: bytes) -> Optional[Sequence[float]]:
-    """The least and greatest x, and those of y, of the points of a blob."""
-    points = from_wkb([blob[8:]]).polygons.points
+def _box(wkb: bytes) -> Optional[Sequence[float]]:
+    """The least and greatest x, and those of y, of a polygon or a point."""
+    kind, x, y = _STARTS[wkb[0]](wkb, 1)
+    if kind % 1000 == _POINT:
+        return x, x, y, y
+    points = from_wkb([wkb]).polygons.points
     if not len(points):
         return None
     box: list[float] = np.stack([points.min(0), points.max(0)], 1).ravel(
@@ -123,7 +130,10 @@ def _box(blob: bytes) -> Optional[Sequence[float]]:
 
 
 def _side(place: int) -> Callable[[Any], Optional[float]]:
-    """What a blob says of a side of its box; nothing where there is none."""
+    """What a blob says of a side of its box; nothing where there is none.
+
+    It is an error where the box isn't known: SQLite would take it for zeros.
+    """
     start = 8 + 8 * place
 
     def value(blob: Any) -> Optional[float]:
@@ -131,8 +141,8 @@ def _side(place: int) -> Callable[[Any], Optional[float]]:
             if blob[3] & _BOXES:
                 number: float = _NUMBERS[blob[3] & 1](blob, start)[0]
                 return number
-            box = _box(blob)
-        except (FeatureError, struct.error, TypeError, IndexError):
+            box = _box(blob[8:])
+        except (struct.error, TypeError, IndexError):
             return None
         return None if box is None else box[place]
     return value
@@ -199,6 +209,9 @@ def _naming(path: Path, what: str = "") -> Iterator[None]:
             what = ""  # whatever else it says isn't so
             words += (": another program has it open; close it there, or try"
                       " again later")
+        if words == _FAILED:
+            words = ("a trigger writes a geometry without an envelope, which"
+                     " is neither a point nor a flat polygon")
         raise OSError(f"{path}: {what}{words}") from error
 
 
