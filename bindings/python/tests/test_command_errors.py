@@ -112,6 +112,8 @@ class Errors(CommandCase):
                 ("POLYGON Z ((0 0 0, 1 1 1))",
                  "--others drop allows it; `ogr2ogr -dim XY` drops heights"),
                 ("POLYGON ((0 0 0, 1 1 1))", "; `ogr2ogr -dim XY` drops"),
+                ("POLYGONZ ((0 0 0, 1 1 1))", "; `ogr2ogr -dim XY` drops"),
+                ("POLYGONZX ((0 0 0))", "feature 0: expected POLYGON or"),
                 ("POINT (0 0)",
                  "; --others keep or --others drop allows it\n"),
                 ("\0", "feature 0: expected POLYGON or MULTIPOLYGON")):

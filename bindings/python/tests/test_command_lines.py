@@ -232,6 +232,8 @@ class Others(CommandCase):
         square = "POLYGON ((0 0, 4 0, 4 4, 0 4, 0 0))"
         others = ["POINT (1 2)", "polygon z ((0 0 1, 1 0 1, 1 1 1, 0 0 1))",
                   "POLYGON ((0 0 1, 1 0 1, 1 1 1, 0 0 1))",
+                  "PolygonZM((0 0 1 1, 1 0 1 1, 1 1 1 1, 0 0 1 1))",
+                  "MULTIPOLYGONM EMPTY", "POINTZ (1 2 3)",
                   "CURVEPOLYGON EMPTY"]
         given = self.write("\n".join([square, *others, square]), "a.wkt")
         out = self.folder / "out.wkt"

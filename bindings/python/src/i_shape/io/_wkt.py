@@ -9,11 +9,13 @@ from typing import Any, Callable, Iterable, Iterator
 from ._builder import Builder, short
 from ._features import FeatureError, Features, as_features
 
-_HEAD = re.compile(r"\s*(MULTIPOLYGON|POLYGON)\b\s*", re.IGNORECASE)
+# Some programs write POLYGONZ for POLYGON Z.
+_HEAD = re.compile(r"\s*(MULTIPOLYGON|POLYGON)(?=\b|(ZM|Z|M)\b)\s*",
+                   re.IGNORECASE)
 _OTHER = re.compile(
     r"\s*(POINT|LINESTRING|MULTIPOINT|MULTILINESTRING|GEOMETRYCOLLECTION|"
     r"CIRCULARSTRING|COMPOUNDCURVE|CURVEPOLYGON|MULTICURVE|MULTISURFACE|"
-    r"POLYHEDRALSURFACE|TIN|TRIANGLE)\b", re.IGNORECASE)
+    r"POLYHEDRALSURFACE|TIN|TRIANGLE)(ZM|Z|M)?\b", re.IGNORECASE)
 _DIMENSIONS = re.compile(r"(ZM|Z|M)\b", re.IGNORECASE)
 _OPEN, _CLOSE, _COMMA = (re.compile(rf"\s*{mark}\s*")
                          for mark in (r"\(", r"\)", ","))
