@@ -166,6 +166,13 @@ class Shapely(unittest.TestCase):
                 io.from_shapely([square, other])
             self.assertEqual(told.exception.feature, 1)
 
+    def test_polygons_with_measures(self):
+        """Shapely 2.1 says that they have some."""
+        square = geometry.Polygon(samples.SQUARE)
+        with mock.patch.object(geometry.Polygon, "has_m", True, create=True), \
+                self.assertRaisesRegex(io.FeatureError, "three coordinates"):
+            io.from_shapely([square])
+
     def test_infinite_points_name_their_place(self):
         square = geometry.Polygon(samples.SQUARE)
         for number in (float("nan"), float("inf")):

@@ -21,7 +21,9 @@ def fault_of(geometry: Any) -> Optional[str]:
     if not isinstance(geometry, (Polygon, MultiPolygon)):
         return ("expected a Polygon or a MultiPolygon, not a"
                 f" {type(geometry).__name__}")
-    if not geometry.is_empty and geometry.has_z:
+    # From 2.1 on, shapely has measures too.
+    if not geometry.is_empty and (geometry.has_z
+                                  or getattr(geometry, "has_m", False)):
         return "it has three coordinates a point, not two"
     return None
 
