@@ -220,6 +220,16 @@ class Plots(CommandCase):
             self.assertEqual(sum("fewer" in text for text in texts),
                              9 if most == 10 else 0)
 
+    def test_a_feature_drawn_does_not_look_at_all_others(self):
+        self.write(samples.geojson(*[samples.polygon(SPIKED)] * 9))
+        with mock.patch.object(importlib.util, "find_spec", str), \
+                mock.patch.object(plot.Picture, "draw",
+                                  lambda _, path, *__: path.touch()), \
+                mock.patch.object(plot, "_ends", wraps=plot._ends) as ends:
+            self.run_command("simplify", self.given, self.out, "--step",
+                             "0.1", "--plot", self.folder / "plot.svg")
+        self.assertEqual(ends.call_count, 2)  # of all before and after
+
     def texts(self, name):
         """The words of a picture, which are in its comments."""
         return re.findall("<!-- (.*) -->", (self.folder / name).read_text())

@@ -35,7 +35,8 @@ def _point_counts(features: Features) -> Array:
 
 def _rings(features: Features, place: int) -> list[Array]:
     """The rings of a feature, closed."""
-    first, last = _ends(features)[place:place + 2]
+    polygons = features.feature_offsets[place:place + 2]
+    first, last = features.polygons.polygon_offsets[polygons]
     rings = close_rings(features.polygons.points,
                         features.polygons.ring_offsets[first:last + 1])
     ends = rings.offsets.tolist()
