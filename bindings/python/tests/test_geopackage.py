@@ -14,8 +14,9 @@ from unittest import mock
 
 import samples
 from i_shape import io
-from i_shape._command import blocks, geopackage
+from i_shape._command import blocks, geopackage, plot
 from test_command import FLAT, SPIKED, SQUARE, CommandCase
+from test_command_report import HAS_MATPLOTLIB
 
 HAS_GDAL = shutil.which("ogr2ogr") is not None
 WHY_NOT = "a file of GDAL is not tested: there is no ogr2ogr"
@@ -96,6 +97,12 @@ class GeoPackageCase(CommandCase):
                 [(2 * place + 3, f"no {place}", one)
                  for place, one in enumerate(blobs)])
         store.close()
+
+    def rename(self, name):
+        """Give the layer of parcels another name."""
+        self.change(f"ALTER TABLE parcels RENAME TO {geopackage._quoted(name)}")
+        for table in ("gpkg_contents", "gpkg_geometry_columns"):
+            self.change(f"UPDATE {table} SET table_name = ?", name)
 
     def dump(self):
         with contextlib.closing(sqlite3.connect(self.given)) as store:
@@ -265,6 +272,29 @@ gone: layer 'parcels', fid 13, equal to layer 'parcels', fid 3
         self.assertIn(7, self.geometries())
         self.run_clean("--others", "drop", call="dedup")
         self.assertEqual([*self.geometries()], [3, 5, 11])
+
+
+    @unittest.skipUnless(HAS_MATPLOTLIB, "there is no matplotlib")
+    def test_a_plot_of_a_layer_with_dollars(self):
+        self.fill(SPIKED_BLOB)
+        name, picture = r"a$_$\$b", self.folder / "plot.svg"
+        self.rename(name)
+        with mock.patch.object(plot, "_MOST", 1):
+            self.run_clean("--plot", picture)
+        self.assertIn(f"layer {name!r}, fid 3: 3 fewer", picture.read_text())
+
+    def test_a_name_that_standard_output_has_no_letters_for(self):
+        self.fill(FLAT_BLOB)
+        self.rename("pole \u0142")
+        for words, status in ((["simplify", self.given, self.out, "--report",
+                                "--collapsed", "empty"], 0),
+                              (["check", self.given], 1)):
+            run = subprocess.run(
+                [sys.executable, "-m", "i_shape", *words, "--step", "0.1"],
+                env={**os.environ, "PYTHONIOENCODING": "latin-1"},
+                capture_output=True, check=False)
+            self.assertEqual(run.returncode, status, run.stderr)
+            self.assertIn(rb"layer 'pole \u0142', fid 3", run.stdout)
 
 
 class Errors(GeoPackageCase):

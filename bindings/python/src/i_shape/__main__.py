@@ -16,6 +16,7 @@ import re
 import signal
 import sys
 from contextlib import ExitStack, suppress
+from io import TextIOWrapper
 from pathlib import Path
 from typing import Any, Iterable, NoReturn, Optional, Sequence
 
@@ -323,6 +324,8 @@ def _forget_unwritten() -> None:
 def run() -> NoReturn:
     """Run the command as a program does, which signals may end."""
     gc.disable()  # many lists are made, and no cycles
+    if isinstance(sys.stdout, TextIOWrapper):
+        sys.stdout.reconfigure(errors="backslashreplace")  # names of layers
     if signal.getsignal(signal.SIGINT) is signal.default_int_handler:
         signal.signal(signal.SIGINT, _stop)
     signal.signal(signal.SIGTERM, _stop)

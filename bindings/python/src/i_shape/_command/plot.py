@@ -103,7 +103,9 @@ class Picture:
             panels = figure.subplots(_PANELS, _PANELS).ravel()
             for axes, one in zip(panels, self._losers):
                 _draw(axes, [one], ("", ""))
-                axes.set_title(f"{one.name}: {one.lost} fewer", fontsize=8)
+                # What is between dollars would be a formula.
+                name = one.name.replace("$", r"\$")
+                axes.set_title(f"{name}: {one.lost} fewer", fontsize=8)
                 axes.tick_params(labelsize=5)
                 axes.ticklabel_format(useOffset=False)
                 axes.locator_params(nbins=4)
