@@ -220,6 +220,22 @@ class Others(CommandCase):
                             else list(map(json.loads, text.splitlines())))
                 self.assertEqual([one["geometry"] for one in features], right)
 
+    def test_what_stays_as_it_is_keeps_its_bbox(self):
+        square = samples.polygon(samples.SQUARE)
+        for geometry, words in (
+                (POINT, ["simplify", "--others", "keep"]),
+                (MANY, ["simplify", "--others", "keep"]),
+                (square, ["dedup"])):
+            box = {"bbox": [0, 0, 4, 4]}
+            whole = {"type": "Feature", **box, "geometry": {**box, **geometry}}
+            for document in (whole, whole["geometry"],
+                             {"type": "FeatureCollection",
+                              "features": [whole]}):
+                self.write(document)
+                self.run_command(words[0], self.given, self.out, "--step",
+                                 "1", *words[1:])
+                self.assertEqual(json.loads(self.out.read_text()), document)
+
     def test_a_lone_feature_that_is_dropped_leaves_an_empty_collection(self):
         for document in (POINT, json.loads(feature(POINT))):
             self.write(document)

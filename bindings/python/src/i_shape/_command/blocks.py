@@ -26,7 +26,8 @@ class Record(NamedTuple):
 
     Where there are none to be replaced, all is before them. ``geometry`` is
     what the format's reader takes, and None where there is none. ``fid``
-    counts the features from 0 on.
+    counts the features from 0 on. ``whole`` is the text as it was, where
+    that may have a ``bbox``, which other coordinates may not fit.
     """
 
     fid: int
@@ -35,6 +36,7 @@ class Record(NamedTuple):
     coordinates: str = ""
     behind: str = ""
     line: Optional[int] = None
+    whole: str = ""
 
     @property
     def name(self) -> str:
@@ -49,11 +51,11 @@ class Record(NamedTuple):
     @property
     def size(self) -> int:
         return (len(self.before) + len(self.coordinates)
-                + len(self.behind))
+                + len(self.behind) + len(self.whole))
 
     @property
     def text(self) -> str:
-        return f"{self.before}{self.coordinates}{self.behind}"
+        return self.whole or f"{self.before}{self.coordinates}{self.behind}"
 
 
 class Block:

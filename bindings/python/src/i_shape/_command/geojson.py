@@ -35,16 +35,15 @@ def collection_frame(crs: str = "") -> tuple[str, str]:
     return f'{{"type": "FeatureCollection",{member} "features": [\n', "\n]}\n"
 
 
-def _geometry_record(fid: int, geometry: Members, before: str = "",
-                     behind: str = "", line: Optional[int] = None) -> Record:
-    """The record of a geometry in what is around it."""
+def _geometry_record(fid: int, geometry: Members, whole: str, before: str,
+                     behind: str, line: Optional[int] = None) -> Record:
+    """The record of a geometry in what is around it, and all as it was."""
     if "coordinates" not in geometry:
-        text = f"{before}{geometry.text()}{behind}"
-        return Record(fid, geometry.plain(), text, line=line)
+        return Record(fid, geometry.plain(), whole, line=line)
     head, tail = geometry.around("coordinates")
     member = geometry["coordinates"]
     return Record(fid, geometry.plain(), before + head,
-                  member.text[member.begin:], tail + behind, line)
+                  member.text[member.begin:], tail + behind, line, whole)
 
 
 def _feature_record(fid: int, feature: Any,
@@ -59,7 +58,8 @@ def _feature_record(fid: int, feature: Any,
     geometry = feature.value("geometry")
     if not isinstance(geometry, Members):
         return Record(fid, geometry, feature.text(), line=line)
-    return _geometry_record(fid, geometry, *feature.around("geometry"), line)
+    return _geometry_record(fid, geometry, feature.text(),
+                            *feature.around("geometry"), line)
 
 
 class _Plain(NamedTuple):
@@ -172,8 +172,9 @@ class Document:
             self.crs = members["crs"].text
         if members.value("type") == "Feature":
             return _feature_record(0, members)
-        around = FEATURE if self._needs_features else ("", "")
-        return _geometry_record(0, members, *around)
+        before, behind = FEATURE if self._needs_features else ("", "")
+        whole = f"{before}{members.text()}{behind}"
+        return _geometry_record(0, members, whole, before, behind)
 
 
 def line_records(file: TextIO) -> Iterator[Record]:
