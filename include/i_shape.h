@@ -153,10 +153,10 @@ ptrdiff_t i_shape_canonical_unoriented_shapes_i32(const i_shape_point_i32 *point
 /* The canonical form of each polygon alone. The result lies in out_points and out_contours, from 0 on, and shapes[]
  * divides its contours too: a contour that collapses is empty, and so stays in its polygon. The first contour of a
  * polygon is the form of the first. The forms of the others, the holes, follow sorted: the empty ones first. Where the
- * first contour is empty the polygon collapses; i_shape_compact_shapes returns what is left. Contours that no polygon has
- * stay at their places. These return the number of points written. The codes are those of many contours, and
- * I_SHAPE_BAD_OFFSETS also comes where the same is wrong of shapes[] over the contours. Where there is no contour, no
- * memory is taken. */
+ * first contour is empty the polygon collapses; i_shape_compact_shapes returns what is left. Of a contour that no
+ * polygon has the form is at its place. These return the number of points written. The codes are those of many
+ * contours, and I_SHAPE_BAD_OFFSETS also comes where the same is wrong of shapes[] over the contours. Where there is no
+ * contour, no memory is taken. */
 ptrdiff_t i_shape_canonical_polygons_i32(const i_shape_point_i32 *points, size_t count, const size_t *contours, size_t contour_offset_count, const size_t *shapes, size_t shape_offset_count, i_shape_point_i32 *out_points, size_t room, size_t *out_contours, size_t contour_room);
 /* The same where a contour may be read backwards too: the lesser of the forms of both ways. */
 ptrdiff_t i_shape_canonical_unoriented_polygons_i32(const i_shape_point_i32 *points, size_t count, const size_t *contours, size_t contour_offset_count, const size_t *shapes, size_t shape_offset_count, i_shape_point_i32 *out_points, size_t room, size_t *out_contours, size_t contour_room);
@@ -164,16 +164,16 @@ ptrdiff_t i_shape_canonical_unoriented_polygons_i32(const i_shape_point_i32 *poi
 /* The canonical form of each of many features, which are lists of polygons: features[] divides the polygons into
  * features. The result lies in out_points, out_contours and out_shapes, from 0 on, and features[] divides its polygons
  * too. The polygons of a feature are those of i_shape_canonical_shapes_i32, but one that collapses stays, without
- * contours, and comes first, like those that had none. Polygons that no feature has stay at their places, and contours
- * that no polygon has are left out. These return the number of polygons, n = shape_offset_count - 1: their contours end
- * at out_shapes[n], and their points at out_contours[out_shapes[n]]. The codes are those of the calls on polygons, and
- * I_SHAPE_BAD_OFFSETS also comes where the same is wrong of features[] over the polygons. Where no polygon has a
- * contour, no memory is taken. */
+ * contours, and comes first, like those that had none. Of a polygon that no feature has the form is at its place, and
+ * contours that no polygon has are left out. These return the number of polygons, n = shape_offset_count - 1: their
+ * contours end at out_shapes[n], and their points at out_contours[out_shapes[n]]. The codes are those of the calls on
+ * polygons, and I_SHAPE_BAD_OFFSETS also comes where the same is wrong of features[] over the polygons. Where no
+ * polygon has a contour, no memory is taken. */
 ptrdiff_t i_shape_canonical_features_i32(const i_shape_point_i32 *points, size_t count, const size_t *contours, size_t contour_offset_count, const size_t *shapes, size_t shape_offset_count, const size_t *features, size_t feature_offset_count, i_shape_point_i32 *out_points, size_t room, size_t *out_contours, size_t contour_room, size_t *out_shapes, size_t shape_room);
 /* The same where a contour may be read backwards too: the lesser of the forms of both ways. */
 ptrdiff_t i_shape_canonical_unoriented_features_i32(const i_shape_point_i32 *points, size_t count, const size_t *contours, size_t contour_offset_count, const size_t *shapes, size_t shape_offset_count, const size_t *features, size_t feature_offset_count, i_shape_point_i32 *out_points, size_t room, size_t *out_contours, size_t contour_room, size_t *out_shapes, size_t shape_room);
 
-/* Tests of a contour. These return 1 or 0, or I_SHAPE_UNSAFE, and take no memory. */
+/* Tests of a contour. These, but the last, return 1 or 0, or I_SHAPE_UNSAFE. They take no memory. */
 
 /* At least three points, and no zero turn. */
 int32_t i_shape_is_simple_i32(const i_shape_point_i32 *points, size_t count);
@@ -204,7 +204,8 @@ ptrdiff_t i_shape_winding_i32(const i_shape_point_i32 *points, size_t count, int
 int32_t i_shape_windings_i32(const i_shape_point_i32 *points, size_t count, const size_t *offsets, size_t offset_count, const i_shape_point_i32 *about, size_t about_count, ptrdiff_t *out, size_t room);
 
 /* Which points a fill rule fills, and which lie on an edge. The last two take memory as above, and 8 bytes for each
- * point asked about, i_shape_locate_iW 16 more, at 64 bits 24; if that allocation fails too, they return the same.
+ * point asked about; where it takes the former, i_shape_locate_iW takes 16 more, at 64 bits 24; if that allocation fails
+ * too, they return the same.
  * I_SHAPE_BAD_OFFSETS: there is no such rule, too. */
 
 /* Whether the rule fills (x, y), by the winding number around it: 1 or 0, or I_SHAPE_UNSAFE, if that point or one of
@@ -229,7 +230,7 @@ int32_t i_shape_locate_in_shapes_i32(const i_shape_point_i32 *points, size_t cou
 /* Contacts. An edge leads from each point to the next one, the last edge of a contour to its first point. Two edges are
  * in contact if they share a point other than one at which one of them follows the other: they cross, touch or overlap.
  * The calls that search for contacts take memory if there are 16 or more points. If that allocation fails, they return
- * the same, and take longer. */
+ * the same, and take longer. So do those for validity, also for polygons with two holes or more. */
 
 /* At least three points, not all equal, and no contact: the contour is the boundary of a simple polygon. It returns 1 or
  * 0, or I_SHAPE_UNSAFE. */
@@ -247,9 +248,9 @@ int32_t i_shape_first_contact_of_rings_i32(const i_shape_point_i32 *points, size
 /* Two edges in contact: the places of the points from which they lead, the lesser first. */
 typedef struct { size_t first, second; } i_shape_contact;
 
-/* All contacts: by the place of the first edge, and those of one edge by that of the second. It writes as many as fit to
- * the front of out, and returns how many there are, also if that is more than room. I_SHAPE_UNSAFE: a point isn't safe.
- * After that, and behind the contacts, out is as it was. */
+/* All contacts: by the place of the first edge, and those of one edge by that of the second. It writes as many as fit
+ * to the front of out, and returns how many there are, at most PTRDIFF_MAX, also if that is more than room.
+ * I_SHAPE_UNSAFE: a point isn't safe. After that, and behind the contacts, out is as it was. */
 ptrdiff_t i_shape_contacts_i32(const i_shape_point_i32 *points, size_t count, i_shape_contact *out, size_t room);
 /* The same of many contours together, with the offsets, places and codes of i_shape_first_contact_of_rings_i32, except
  * I_SHAPE_NO_ROOM. */
@@ -259,7 +260,7 @@ ptrdiff_t i_shape_contacts_of_rings_i32(const i_shape_point_i32 *points, size_t 
 enum {
     I_SHAPE_NO_CONTACT = 0, /* they share no point */
     I_SHAPE_CROSSING = 1,   /* the ends of each lie on both sides of the line of the other, none on it */
-    I_SHAPE_TOUCH = 2,      /* they share one point, and don't cross: so does an edge with the one that follows it */
+    I_SHAPE_TOUCH = 2,      /* they share one point, and don't cross: an edge at least touches the one that follows it */
     I_SHAPE_OVERLAP = 3     /* they share more than one point */
 };
 

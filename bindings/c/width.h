@@ -733,7 +733,7 @@ static void AT(test_validity)(void) {
     check(CALL(validity_shapes)(given, 50, low, 2, one, 2, out, 7) == I_SHAPE_UNSAFE, W, "validity_shapes", "a first point that isn't safe");
     check(CALL(validity_shapes)(given, 50, high, 2, one, 1, out, 7) == I_SHAPE_UNSAFE, W, "validity_shapes", "a last point that isn't safe, of no polygon");
     check(is_filled(out, sizeof out), W, "validity_shapes", "codes leave the array as it was");
-    WITH_EACH_GROWTH_FAILED(CALL(validity_shapes)(given, 50, contours, 15, shapes, 7, out, 7), is_filled(out, sizeof out), growths == 1, W, "validity_shapes");
+    WITH_EACH_GROWTH_FAILED(CALL(validity_shapes)(given, 50, contours, 15, shapes + 1, 4, out, 7), is_filled(out, sizeof out), growths == 1, W, "validity_shapes");
 }
 
 /* Sixteen points and more: steps up and back down, of which the last edge, with `touches`, touches the second one. With each growth
@@ -742,6 +742,8 @@ static void AT(test_contacts_without_memory)(void) {
     enum { STEPS = 20, COUNT = 2 * STEPS };
     POINT steps[COUNT];
     const size_t whole[2] = {0, COUNT}, one[2] = {0, 1};
+    const POINT nested[12] = {{0, 0}, {20, 0}, {20, 20}, {0, 20}, {2, 2}, {16, 2}, {16, 16}, {2, 16}, {4, 4}, {6, 4}, {6, 6}, {4, 6}};
+    const size_t three[4] = {0, 4, 8, 12}, all[2] = {0, 3};
     for (int k = 0; k < STEPS; k++) {
         const POINT up = {(COORDINATE)(k / 2 * 4 + k % 2 * 4), (COORDINATE)(k / 2 * 4)}, down = {(COORDINATE)(up.x - 2), (COORDINATE)(up.y + 3)};
         steps[k] = up;
@@ -775,6 +777,9 @@ static void AT(test_contacts_without_memory)(void) {
             check(CALL(validity_shapes)(steps, COUNT, whole, 2, one, 2, &fault, 1) == 0 && ARE_TAKEN(2), W, "validity_shapes", "steps");
             check(fault.kind == (touches ? I_SHAPE_CONTACT : I_SHAPE_VALID) && fault.first == (touches ? 1 : 0) && fault.second == (touches ? COUNT - 2 : 0), W,
                   "validity_shapes", "where steps touch");
+            WITH_GROWTH(2); /* the second one is the boxes of rings */
+            check(CALL(validity_shapes)(nested, 12, three, 4, all, 2, &fault, 1) == 0 && ARE_TAKEN(2) && fault.kind == I_SHAPE_HOLE_WITHIN && fault.first == 2
+                  && fault.second == 1, W, "validity_shapes", "a hole in a hole");
 #ifdef FAILS_GROWTHS
             failing = 0;
 #endif
