@@ -124,12 +124,12 @@ uninstall-c:
 	rm -rf "$(TO_LIB)/cmake/i_shape"
 
 # Installs the extension of PostgreSQL, as `make postgres` has built it, into that server.
-install-postgres: $(if $(I_SHAPE_C_DIR),,c)
+install-postgres: $(if $(I_SHAPE_C_DIR),,c) | $(filter postgres,$(MAKECMDGOALS))
 	@mkdir -p bindings/postgres/out
 	@$(MAKE) -s -C bindings/postgres/out -f ../Makefile I_SHAPE_C_DIR=$(abspath $(or $(I_SHAPE_C_DIR),$(C_OUT))) install
 
 # Installs the extension of SQLite, as `make sqlite` has built it, below PREFIX or in LIBDIR.
-install-sqlite: $(if $(I_SHAPE_C_DIR),,c)
+install-sqlite: $(if $(I_SHAPE_C_DIR),,c) | $(filter sqlite,$(MAKECMDGOALS))
 	@$(MAKE) -s -f bindings/sqlite/Makefile I_SHAPE_C_DIR=$(abspath $(or $(I_SHAPE_C_DIR),$(C_OUT))) LIBDIR=$(LIBDIR) install
 
 # Removes the extension of PostgreSQL from that server, whose databases have dropped it.

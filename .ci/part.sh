@@ -51,6 +51,7 @@ add() {
         its_failed=1
     fi
     grep -v ' passed, ' "$work/log"
+    [ "$its_failed" = 0 ] || echo "failed: $1: $its_failed"
     passed=$((passed + its_passed))
     failed=$((failed + its_failed))
     skipped=$((skipped + its_skipped))

@@ -26,7 +26,7 @@ import time
 TOP = os.path.dirname(os.path.dirname(os.path.realpath(__file__)))
 COUNTS = re.compile(r"^(?:[a-z. ]+: |test result: .*\. )?(\d+) passed[,;] (\d+) failed(?:, (\d+) skipped$|;.*$|$)", re.MULTILINE)
 # The lines that name a failure, by part.sh, unittest, Node, cargo, the mutants and rt, and the line below which this script repeats them.
-NAMES_FAILURE = re.compile(r"failed: |(FAIL|ERROR|FAILED)\b|not ok |\s*✖ |(mutant|test) .*(NOT REFUSED|BAD EDIT|FAILED)|.*(not proved|open goal)")
+NAMES_FAILURE = re.compile(r"failed: |(FAIL|ERROR|FAILED)\b|\s*not ok |\s*✖ |(mutant|test) .*(NOT REFUSED|BAD EDIT|FAILED)|.*(not proved|open goal)")
 REPEATED = "What failed:"
 LEFT_OUT = shutil.ignore_patterns(".git", "out", "target", "dist", "environment", "__pycache__")
 # The parts of the tests, in the order in which they start, two at a time: the longest first, and the pages, which show what others build, last.
@@ -208,9 +208,12 @@ def main():
     sys.stdout.reconfigure(errors="replace")
     parts = Parts()
     try:
-        parts.attempt(runs[sys.argv[1]])
-        if parts.failures:
-            print(REPEATED, *parts.failures, sep="\n")
+        try:
+            parts.attempt(runs[sys.argv[1]])
+        finally:
+            # also where a signal ends this
+            if parts.failures:
+                print(REPEATED, *parts.failures, sep="\n", flush=True)
         print(sum_line(parts.counts), flush=True)
         return any(failed for _, failed, _ in parts.counts)
     finally:

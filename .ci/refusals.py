@@ -82,7 +82,7 @@ def main():
             done.update(run.done)
     more, passed = compare(done, refused)
     faults += more
-    print(*faults, f"growths refused within the calls: {refused.total()}", sep="\n")
+    print(*(f"failed: {fault}" for fault in faults), f"growths refused within the calls: {refused.total()}", sep="\n")
     print(f"refusals: {max(passed, 0)} passed, {len(faults)} failed")
     return bool(faults)
 

@@ -44,7 +44,10 @@ def sum_of_sources(crate):
 
 
 def commit():
-    """The commit, and whether files differ from it; nothing without git."""
+    """The commit, which an archive of sources names, and whether files differ from it."""
+    if (TOP / "COMMIT").is_file():
+        return (TOP / "COMMIT").read_text(encoding="utf-8").strip()
+
     def git(*words):
         return subprocess.run(["git", "-C", TOP, *words], capture_output=True, text=True, check=False).stdout.strip()
     return (git("rev-parse", "HEAD") + ("-changed" if git("status", "--short", "--untracked-files=no") else "")) or "unknown"

@@ -11,7 +11,8 @@ if [ ! -e "$top/COMMIT" ] && git -C "$top" rev-parse HEAD > "$folder/COMMIT" 2> 
     git -C "$top" archive HEAD | tar -x -C "$folder"
 else
     echo unknown > "$folder/COMMIT"
-    tar --create --exclude={./.git,./erased,out,target,dist,environment,__pycache__} -C "$top" . | tar -x -C "$folder"
+    # without what builds and tests leave, also while this is packed
+    tar --create --exclude={./.git,./erased,./docs/plots,./rust/i_shape_serde/Cargo.lock,out,target,dist,environment,__pycache__} -C "$top" . | tar -x -C "$folder"
 fi
 work=$(mktemp -d)
 trap 'rm -rf "$work"' EXIT

@@ -19,7 +19,7 @@ static void check(int holds, int width, const char *call, const char *what) {
         passed++;
     } else {
         failed++;
-        printf("%s at %d bits: %s\n", call, width, what);
+        printf("failed: %s at %d bits: %s\n", call, width, what);
     }
 }
 

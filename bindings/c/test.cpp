@@ -151,7 +151,7 @@ protected:
 
     void check(bool holds, const char *call, const char *what) const {
         (holds ? passed : failed)++;
-        if (!holds) std::printf("C++, %s, %s: %s\n", kind_, call, what);
+        if (!holds) std::printf("failed: C++, %s, %s: %s\n", kind_, call, what);
     }
 
     void throws(i_shape::Code code, const char *call, const char *what, const std::function<void()> &called) const {
