@@ -15,6 +15,7 @@ pub mod SameWinding
 pub mod Outside
 pub mod Nesting
 pub mod Faults
+pub mod RingBoxes
 pub mod Parting
 pub mod Removal
 pub mod Valid

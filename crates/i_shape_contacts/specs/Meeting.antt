@@ -2,7 +2,7 @@
 use Rattle.std.specs.Prelude.{◌≡◌, ◌≤ℤ◌, ◌<ℤ◌, ℤ, pos, ◌+ℤ◌, ◌-ℤ◌, ◌*ℤ◌}
 use Rattle.i_shape_core.specs.Point.{Point}
 
--- p divided by d lies on the segment from a to b, ends included: `share` parts in d of the way from a to b
+-- p divided by d is the point `share` d-ths of the way from a to b, for a share from 0 to d
 pub record IsOnSegment (d : ℤ) (p a b : Point) : Type 0 where
   pub share : ℤ
   pub least : pos 0 ≤ℤ share

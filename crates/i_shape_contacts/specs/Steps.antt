@@ -3,3 +3,4 @@ pub mod Boxes
 pub mod Chunks
 pub mod Deciding
 pub mod Orders
+pub mod Rings

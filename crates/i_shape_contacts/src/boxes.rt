@@ -15,7 +15,8 @@ pub struct Bounds<I> {
     pub high: IntPoint<I>,
 }
 
-/// Some chunks that follow one another: the box of the first, the box of all, and the index of the chunk after them.
+/// Some chunks of edges, or rings, that follow one another: the box of the first, the box of all, and the index of the one
+/// after them.
 #[derive(Clone, Copy)]
 pub struct Block<I> {
     pub own: Bounds<I>,

@@ -25,6 +25,7 @@ pub mod kinds;
 pub mod listing;
 pub mod order;
 pub mod plain;
+mod rings;
 pub mod segments;
 pub mod spread;
 pub mod validity;
@@ -85,7 +86,7 @@ pub fn first_contact_of_rings<P: ContourPoint>(
         MatchOption result (NoContact contact) (λ it. IsFirstContact contact it.first it.second) }
 {
     let rings = Rings { offsets };
-    if offsets.len() < MANY_RINGS {
+    if offsets.len() < MANY_RINGS || points.len() < 16 {
         blocks::first_contact_by(alloc, points, rings)
     } else {
         match table_of(alloc, offsets) {

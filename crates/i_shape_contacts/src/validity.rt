@@ -4,16 +4,17 @@ ghost use Rattle.std.specs.Prelude.{◌≡◌, ◌↔◌, ◌<◌, ◌+◌, ℕ,
 ghost use Rattle.i_shape_core.specs.IntPoint.{IsSafeContour};
 ghost use Rattle.i_shape_core.specs.Reading.{read};
 ghost use Rattle.i_shape_core.specs.Contour.{point_at};
-ghost use Rattle.i_shape_core.specs.Rings.{nth_ring};
 ghost use Rattle.i_shape_core.specs.Winding.{winding};
+ghost use Rattle.i_shape_contacts.specs.Steps.Rings.{AreRingBlocks};
 ghost use Rattle.i_shape_contacts.specs.Contacts.{IsRingContact, NoContact};
 ghost use Rattle.i_shape_contacts.specs.Courses.{DividesPoints};
 ghost use Rattle.i_shape_contacts.specs.Validity.{IsDegenerate, IsDegenerateRing, NoDegenerateRing, IsHoleOutside, NoHoleOutside, IsHoleWithin, NoHoleWithin, IsFirstWithin, IsHole, IsLeast, IsFirstFault, IsValidPolygon};
 ghost use Rattle.i_shape_contacts.specs.declared.validity.Validity.TheVariants.{Valid};
 
+use crate::boxes::Block;
 use crate::first_contact_of_rings;
 use crate::plain::{Contact, are_all_equal, point_of_place};
-use i_shape_core::batch::part;
+use crate::rings::{blocks_if_memory, next_beside, ring_at};
 use i_shape_core::point::ContourPoint;
 use i_shape_core::winding::winding_about;
 use std::alloc::Global;
@@ -47,9 +48,10 @@ struct Nesting {
 /// contact, as `first_contact_of_rings` returns it; the first hole that is outside the outer contour; the first hole
 /// that is within another, with the first such other.
 ///
-/// It takes the time that `first_contact_of_rings` takes. Where it finds no contact, it also takes time proportional to
-/// the number of holes times the number of points: of rings that don't touch it tests one vertex for each two. It
-/// allocates what `first_contact_of_rings` does, and returns the same where memory is refused.
+/// It takes the time that `first_contact_of_rings` takes. Where it finds no contact, it also compares each hole with the
+/// outer contour, and with the other holes whose boxes it meets: of rings that don't touch it tests one vertex for each
+/// two. It allocates what `first_contact_of_rings` does, and boxes for each ring; where memory is refused it compares
+/// each two holes.
 pub fn validity_of<P: ContourPoint>(alloc: Global, points: &[P], offsets: &[usize]) -> Validity
     requires safe { IsSafeContour P.Coordinate.width
         (read P.Coordinate.value P.points points.now) }
@@ -67,27 +69,13 @@ pub fn validity_of<P: ContourPoint>(alloc: Global, points: &[P], offsets: &[usiz
     if let Some(contour) = first_outside(points, offsets) {
         return Validity::HoleOutside { contour };
     }
-    match first_within(points, offsets) {
+    match first_within(alloc, points, offsets) {
         Some(nesting) => Validity::HoleWithin {
             contour: nesting.hole,
             other: nesting.other,
         },
         None => Validity::Valid,
     }
-}
-
-/// Returns the points of a ring.
-fn ring_at<'a, P: ContourPoint>(points: &'a [P], offsets: &[usize], ring: usize) -> &'a [P]
-    requires safe { IsSafeContour P.Coordinate.width
-        (read P.Coordinate.value P.points points.now) }
-    requires divides { DividesPoints (length points.now) offsets.now }
-    requires within { ring + 1 < length offsets.now }
-    ensures is { read P.Coordinate.value P.points result.now
-        ≡ nth_ring (read P.Coordinate.value P.points points.now) offsets.now ring }
-    ensures safe { IsSafeContour P.Coordinate.width
-        (read P.Coordinate.value P.points result.now) }
-{
-    part(points, offsets[ring], offsets[ring + 1])
 }
 
 /// Returns whether a ring has fewer than three points, or all its points are equal.
@@ -184,29 +172,43 @@ fn is_within<P: ContourPoint>(points: &[P], offsets: &[usize], hole: usize, othe
         )
 }
 
-/// Returns the first other hole that the hole is within.
-fn first_around<P: ContourPoint>(points: &[P], offsets: &[usize], hole: usize) -> Option<usize>
+/// Returns the first other hole that the hole is within. It passes over those whose blocks are apart from the hole.
+fn first_around<P: ContourPoint>(
+    points: &[P],
+    offsets: &[usize],
+    blocks: &[Block<P::Coordinate>],
+    hole: usize,
+) -> Option<usize>
     requires safe { IsSafeContour P.Coordinate.width
         (read P.Coordinate.value P.points points.now) }
     requires divides { DividesPoints (length points.now) offsets.now }
     requires whole { NoDegenerateRing offsets.now (read P.Coordinate.value P.points points.now) }
     requires clear { NoContact
         (IsRingContact offsets.now (read P.Coordinate.value P.points points.now)) }
+    requires are_blocks { AreRingBlocks P.Coordinate.value offsets.now
+        (read P.Coordinate.value P.points points.now) 0 blocks.now }
     requires is_hole { IsHole offsets.now hole }
     ensures { let c = read P.Coordinate.value P.points points.now in
         MatchOption result ((j : ℕ) → IsHoleWithin offsets.now c hole j → ⊥)
         (IsLeast (IsHoleWithin offsets.now c hole)) }
 {
-    for other in 1..offsets.len() - 1 {
+    let mut other = 1;
+    while other < offsets.len() - 1 {
+        let next = next_beside(blocks, hole, other);
+        if other < next {
+            other = next;
+            continue;
+        }
         if is_within(points, offsets, hole, other) {
             return Some(other);
         }
+        other += 1;
     }
     None
 }
 
 /// Returns the first hole that is within another, with the first such other.
-fn first_within<P: ContourPoint>(points: &[P], offsets: &[usize]) -> Option<Nesting>
+fn first_within<P: ContourPoint>(alloc: Global, points: &[P], offsets: &[usize]) -> Option<Nesting>
     requires safe { IsSafeContour P.Coordinate.width
         (read P.Coordinate.value P.points points.now) }
     requires divides { DividesPoints (length points.now) offsets.now }
@@ -217,8 +219,13 @@ fn first_within<P: ContourPoint>(points: &[P], offsets: &[usize]) -> Option<Nest
         MatchOption result (NoHoleWithin offsets.now c)
         (λ it. IsFirstWithin offsets.now c it.hole it.other) }
 {
+    // one hole is within no other
+    if offsets.len() < 4 {
+        return None;
+    }
+    let blocks = blocks_if_memory(alloc, points, offsets);
     for hole in 1..offsets.len() - 1 {
-        if let Some(other) = first_around(points, offsets, hole) {
+        if let Some(other) = first_around(points, offsets, &blocks, hole) {
             return Some(Nesting { hole, other });
         }
     }

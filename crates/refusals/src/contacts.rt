@@ -33,6 +33,22 @@ const STEPS: [IntPoint<i32>; 18] = points![
 /// The points of `STEPS` without the last two.
 const CLEAR: usize = 16;
 
+/// A square, a hole, and a hole in it.
+const NESTED: [IntPoint<i32>; 12] = points![
+    [0, 0],
+    [9, 0],
+    [9, 9],
+    [0, 9],
+    [1, 1],
+    [8, 1],
+    [8, 8],
+    [1, 8],
+    [3, 3],
+    [5, 3],
+    [5, 5],
+    [3, 5]
+];
+
 /// Room for two contacts.
 const BLANK: [Contact; 2] = [Contact {
     first: 0,
@@ -78,6 +94,13 @@ fn meetings_of_rings(rt: HostRuntime) {
     assert!(rt; do_divide(offsets, few.len()), "offsets");
     spared!(rt, "first_contact_of_rings of few rings" => first_contact_of_rings(alloc, few, offsets));
     spared!(rt, "validity_of" => validity_of(alloc, few, offsets));
+    let nested = safe(&rt, NESTED.as_slice());
+    let offsets = [0, 4, 8, NESTED.len()];
+    let offsets = offsets.as_slice();
+    assert!(rt; do_divide(offsets, nested.len()), "offsets");
+    spared!(rt, "validity_of with two holes" => validity_of(alloc, nested, offsets));
+    let offsets = [0, 9, STEPS.len()];
+    let offsets = offsets.as_slice();
     let mut out = BLANK;
     spared!(rt, "contacts_of_rings" => contacts_of_rings(alloc, few, offsets, out.as_mut_slice()));
 }

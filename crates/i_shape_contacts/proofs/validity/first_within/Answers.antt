@@ -13,3 +13,6 @@ returns-in-Some g c = record { first_other = c.in-Some.ensures; none_before = λ
 
 pub returns : goal.returns
 returns g c = λ k j w. let some = w.is_hole.not_outer in let within = w.is_hole.is_ring in let past = c.loop-hole-test.false in c.loop-hole.invariant k j (omega arith) w
+
+pub first_around-requires-clause-are_blocks : goal.first_around-requires-clause-are_blocks
+first_around-requires-clause-are_blocks g c = λ m d h l. rw c.deref.ensures.value (c.blocks_if_memory-blocks.ensures m d h (rw c.deref.ensures.value at l))

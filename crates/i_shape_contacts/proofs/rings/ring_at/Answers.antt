@@ -2,7 +2,7 @@ use Rattle.std.proofs.Common.{◌+◌, ◌-◌, length, sym, ap, subst, ◌∙�
 use Rattle.i_shape_core.specs.IntPoint.{contour_of, IsSafe}
 use Rattle.i_shape_core.proofs.Lists.Rings.{rises_to}
 use Rattle.i_shape_contacts.proofs.Faults.{read-part, All-part}
-use Rattle.i_shape_contacts.proofs.validity.ring_at.Goals as goal
+use Rattle.i_shape_contacts.proofs.rings.ring_at.Goals as goal
 
 pub part-requires-clause-order : goal.part-requires-clause-order
 part-requires-clause-order g c = c.requires.divides.divides.order c.args.ring c.requires.within
