@@ -7,7 +7,8 @@ use Rattle.i_shape_c.specs.declared.codes.Refusal.TheVariants.{Unsafe, BadOffset
 abbrev pub unsafe_code : ℤ
 unsafe_code = negsuc 0
 
--- the code of offsets that don't divide the points, and of an unknown fill rule
+-- the code of offsets that don't divide the points, of an unknown fill rule, and of points that aren't four for each
+-- pair of edges
 abbrev pub bad_offsets_code : ℤ
 bad_offsets_code = negsuc 1
 

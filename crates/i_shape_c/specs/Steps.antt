@@ -1,4 +1,5 @@
--- How polygons are sorted and written, which only private functions cite.
+-- How polygons are sorted and written, and entries of points: what private functions cite. The calls for forms of
+-- polygons and of features cite `Sorted` too.
 pub mod Appended
 pub mod Sorted
 pub mod AskedFor

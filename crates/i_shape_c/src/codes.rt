@@ -8,7 +8,8 @@ ghost use Rattle.i_shape_c.specs.Codes.{code_of};
 pub enum Refusal {
     /// A point isn't safe.
     Unsafe,
-    /// The offsets don't divide the points, or there is no such fill rule.
+    /// The offsets don't divide the points, there is no such fill rule, or the points aren't four for each pair of
+    /// edges.
     BadOffsets,
     /// An allocation failed.
     NoMemory,

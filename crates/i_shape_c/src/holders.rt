@@ -1,10 +1,10 @@
 //! Which of many polygons holds each of many points, by a fill rule, at any width.
 
-ghost use Rattle.std.specs.Prelude.{◌≡◌, ◌≤◌, ◌<◌, length, get_or, IsTrue, IfOk};
+ghost use Rattle.std.specs.Prelude.{◌≤◌, ◌<◌, length, get_or, IsTrue, IfOk};
 ghost use Rattle.std.specs.List.{All};
 ghost use Rattle.i_shape.specs.IntPoint.{point_of, IsSafe};
 ghost use Rattle.i_shape_contacts.specs.Steps.Boxes.{Holds, AreApart};
-ghost use Rattle.i_shape_c.specs.Batch.{PartsPoints, AreSafeContours};
+ghost use Rattle.i_shape_c.specs.Batch.{AreSafeContours};
 ghost use Rattle.i_shape_c.specs.Cleaned.{AreSafe};
 ghost use Rattle.i_shape_c.specs.Codes.{IsRefusal};
 ghost use Rattle.i_shape_c.specs.Holders.{holders_query, IsHolder, AreBoxes, FindsHolders};

@@ -1,5 +1,5 @@
--- How what is left of polygons is written one after the other, and the room that it takes. Only private functions cite
--- this.
+-- How what is left of polygons is written one after the other, and the room that it takes. The calls
+-- don't cite this.
 use Rattle.std.specs.Prelude.{◌≡◌, Bool, ℕ, ◌+◌, ◌-◌, ◌<◌, ◌≤◌, ◌⊎◌, ◌++◌, List, [], ◌∷◌, map, length, take, drop, slice_range, IsTrue, Option, Some, None}
 use Rattle.std.specs.Int.{Width}
 use Rattle.std.specs.List.{AllZip, range_with_len}

@@ -1,4 +1,4 @@
--- How polygons are sorted and then written. Only private functions cite this.
+-- How polygons are sorted and then written.
 use Rattle.std.specs.Prelude.{◌≡◌, ℕ, ◌-◌, List, map, length, take, drop, IsPermutation}
 use Rattle.std.specs.List.{AllZip, AllPairs}
 use Rattle.i_shape.specs.Point.{Point}
