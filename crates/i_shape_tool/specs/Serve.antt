@@ -49,13 +49,13 @@ IsServed words input before after =
 abbrev pub HasAnswer : Command → List ℕ → Type 0
 HasAnswer command text = (answer : List ℕ) × AnswersText command text answer
 
--- the complaint is true of the words and of the input, if that is known; a fault is one of the text that was read, and
--- writing fails only if there is an answer to write
+-- the complaint is true of the words and of the input, if that is known; a fault is one of a text in UTF-8, and writing
+-- fails only if there is an answer to write
 abbrev pub IsTrueComplaint : List (String Global) → Option (List ℕ) → Complaint → Type 0
 IsTrueComplaint words input Usage = (command : Command) → Asks words command → ⊥
 IsTrueComplaint words input NotUtf8 = (command : Command) × Asks words command × IfSome input (λ text. IsUtf8 text → ⊥)
 IsTrueComplaint words input (Fault fault) =
-    (command : Command) × Asks words command × IfSome input (λ text. IsFirstFault command text fault)
+    (command : Command) × Asks words command × IfSome input (λ text. IsUtf8 text × IsFirstFault command text fault)
 IsTrueComplaint words input Input = (command : Command) × Asks words command
 IsTrueComplaint words input Output = (command : Command) × Asks words command × IfSome input (HasAnswer command)
 

@@ -1,7 +1,7 @@
 //! One run of the program: its arguments, its input, its two outputs and its exit status.
 
 ghost use Rattle.std.specs.Prelude.{◌≡◌, ◌++◌, ◌∷◌, [], Some, IfOk, IfErr, OnOk, IfSome, IfNone};
-ghost use Rattle.std.specs.Io.KnownBytes.{Appends, Keeps};
+ghost use Rattle.std.specs.Io.KnownBytes.{Appends, Keeps, IsAtEnd};
 ghost use Rattle.i_shape_tool.specs.Text.{newline};
 ghost use Rattle.i_shape_tool.specs.declared.program.Complaint.TheVariants.{Fault, Input, Usage};
 ghost use Rattle.i_shape_tool.specs.Serve.{Asks, status_of, AppendsBeginning, IsServed, IsTrueComplaint, LeavesOutput, EndsWith, told};
@@ -95,6 +95,7 @@ fn asked(words: &[String]) -> Option<Command>
 /// Returns all input that is left. The only complaint is `Input`, also if an allocation fails.
 fn read_all<R: Read>(alloc: Global, input: &mut R) -> Result<Vec<u8>, Complaint>
     ensures ok { IfOk result (λ bytes. IfSome (R.remaining input.old) (λ xs. bytes.items ≡ xs)) }
+    ensures end { OnOk result (IsAtEnd (R.remaining input.new)) }
     ensures err { IfErr result (λ complaint. complaint ≡ Input) }
 {
     let mut bytes = Vec::new(alloc);
@@ -119,6 +120,9 @@ fn answer<R: Read, W: Write>(
         complaint (W.contents output.old) (W.contents output.new)) }
     ensures unread { IfErr result (λ complaint. complaint ≡ Usage
         → Keeps (R.remaining input.old) (R.remaining input.new)) }
+    ensures end { OnOk result (IsAtEnd (R.remaining input.new)) }
+    ensures end_err { IfErr result (λ complaint. (complaint ≡ Usage → ⊥) → (complaint ≡ Input → ⊥)
+        → IsAtEnd (R.remaining input.new)) }
 {
     let command = asked(words).ok_or(Complaint::Usage)?;
     let bytes = read_all(alloc, input)?;
@@ -176,6 +180,7 @@ pub fn serve<R: Read, W: Write, E: Write>(
     ensures quiet { result ≡ 0 → Keeps (E.contents errors.old) (E.contents errors.new) }
     ensures unread { ((command : Command) → Asks words.now command → ⊥)
         → Keeps (R.remaining input.old) (R.remaining input.new) }
+    ensures read { (result ≡ 2 → ⊥) → (result ≡ 4 → ⊥) → IsAtEnd (R.remaining input.new) }
 {
     match answer(alloc, words, input, output) {
         Ok(()) => 0,
