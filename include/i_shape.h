@@ -229,8 +229,8 @@ int32_t i_shape_locate_in_shapes_i32(const i_shape_point_i32 *points, size_t cou
 
 /* Contacts. An edge leads from each point to the next one, the last edge of a contour to its first point. Two edges are
  * in contact if they share a point other than one at which one of them follows the other: they cross, touch or overlap.
- * The calls that search for contacts take memory if there are 16 or more points. If that allocation fails, they return
- * the same, and take longer. So do those for validity, also for polygons with two holes or more. */
+ * The calls that search for contacts take memory if there are 16 or more points, those for validity also for a polygon
+ * with two holes or more. If one of these allocations fails, they return the same, and take longer. */
 
 /* At least three points, not all equal, and no contact: the contour is the boundary of a simple polygon. It returns 1 or
  * 0, or I_SHAPE_UNSAFE. */

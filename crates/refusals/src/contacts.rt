@@ -88,6 +88,12 @@ fn meetings_of_rings(rt: HostRuntime) {
     let offsets = offsets.as_slice();
     assert!(rt; do_divide(offsets, points.len()), "offsets");
     spared!(rt, "first_contact_of_rings" => first_contact_of_rings(alloc, points, offsets));
+    let few = safe(&rt, SQUARE.as_slice());
+    let mut offsets = [few.len(); RINGS + 1];
+    offsets[0] = 0;
+    let offsets = offsets.as_slice();
+    assert!(rt; do_divide(offsets, few.len()), "offsets");
+    spared!(rt, "first_contact_of_rings of few points" => first_contact_of_rings(alloc, few, offsets));
     let few = safe(&rt, STEPS.as_slice());
     let offsets = [0, 9, STEPS.len()];
     let offsets = offsets.as_slice();
