@@ -54,7 +54,8 @@ class Case(unittest.TestCase):
 class ProofTest(Case):
     """What scripts/proof.py prints of a log of rt."""
 
-    LAST = "fn i_shape_c::b: proved\nfn i_shape_c::a: proved\nfn i_shape_c::fn::a::find: proved\naxioms libc: malloc\nlogic=proved functions=2 sum=1 statements=trusted"
+    LAST = ("fn i_shape_c::b: proved\nfn i_shape_c::a: proved\nfn i_shape_c::a+run: proved\nfn i_shape_c::fn::a::find: proved\naxioms libc: malloc\n"
+            "logic=proved functions=2 sum=1 statements=trusted")
 
     def printed(self, log, crate="i_shape_c"):
         write(f"{self.room}/log", log)
@@ -68,15 +69,15 @@ class ProofTest(Case):
         lines = kept.splitlines()
         self.assertEqual([lines[0], *(line.split()[1] for line in lines if line.startswith("sources "))],
                          ["crate i_shape_c", "i_shape_c", "i_shape", "i_shape_contacts", "i_shape_core", "i_shape_source"])
-        self.assertEqual(lines[-5:], ["fn i_shape_c::a: proved", "fn i_shape_c::b: proved", "fn i_shape_c::fn::a::find: proved", "axioms libc: malloc",
-                                      "logic=proved functions=2 sum=1 statements=trusted incremental=trusted"])
+        self.assertEqual(lines[-6:], ["fn i_shape_c::a+run: proved", "fn i_shape_c::a: proved", "fn i_shape_c::b: proved", "fn i_shape_c::fn::a::find: proved",
+                                      "axioms libc: malloc", "logic=proved functions=2 sum=1 statements=trusted incremental=trusted"])
 
     def test_files(self):
         """What was built has its sum, which `sha256sum -c` finds."""
         write(f"{self.room}/built/lib/a", "a")
         write(f"{self.room}/log", self.LAST)
         printed = self.run_in(TOP, sys.executable, "scripts/proof.py", f"{self.room}/log", "i_shape_c", f"{self.room}/built", "lib/a").stdout
-        self.assertIn("\nfile lib/a ca978112ca1bbdcafac231b39a23dc4da786eff8147c4e72b9807785afee48bb\nfn i_shape_c::a: proved\n", printed)
+        self.assertIn("\nfile lib/a ca978112ca1bbdcafac231b39a23dc4da786eff8147c4e72b9807785afee48bb\nfn i_shape_c::a+run: proved\n", printed)
 
     RT = """#!/bin/sh
 [ "$*" = "all verdict" ] && [ "$(sed 's/[ :].*//' crates.txt | sort)" = "$(ls crates)" ] && [ ! -e "$STAND_IN/fails" ] || exit 1

@@ -66,8 +66,8 @@ def said_last(log, crate):
     if not any(line.startswith(f"fn {crate}::") for line in functions):
         sys.exit(f"proof.py: the log has no verdict of {crate} at its end")
     verdict = lines[-1].split()
-    # a closure has lines of its own, below its function's path and the word fn, and the verdict doesn't count it
-    counted = sum("::fn::" not in line for line in functions)
+    # The verdict counts neither a closure, below its function's path and the word fn, nor what runs `main`, whose name ends with +run.
+    counted = sum("::fn::" not in line and not line.endswith("+run: proved") for line in functions)
     if f"functions={counted}" not in verdict:
         sys.exit(f"proof.py: the log names {counted} functions of {crate} as proved, and its verdict has another number: {lines[-1]}")
     return [*functions, *(line for line in lines if line.startswith("axioms "))], verdict
