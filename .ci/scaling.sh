@@ -1,6 +1,6 @@
 #!/usr/bin/env bash
 # Tests that a text that `parallel` or `split` has parted gets the very answer of one run, for each command of the program, and what becomes of a fault in a
-# part: docs/SCALING.md. It takes the program of `make program`, or that of the word $I_SHAPE_TOOL. Where there is none, or no parallel, it is skipped.
+# part: docs/PROGRAM.md. It takes the program of `make program`, or that of the word $I_SHAPE_TOOL. Where there is none, or no parallel, it is skipped.
 . "$(dirname "$0")/part.sh" && set -o pipefail || exit 1
 program=${I_SHAPE_TOOL:-crates/i_shape_tool_main/out/i_shape_tool_main}
 [ -n "${I_SHAPE_TOOL-}" ] || needs scaling '`make program` builds the program' bash scripts/program/build.sh --is-built || end_part
