@@ -75,7 +75,7 @@ test_changes() {
     test_change 'a public import is gone' cut_line i_shape_core 'pub use turn::{Turn, triangle};' import
     test_change 'two files lie in the place of each other' swap_files i_shape_core/clean/place_ring i_shape_core/turn/triangle
     cp -R "$(built_by i_shape_tests)" "$work/of_tests"
-    sed -i '0,/HostRuntime::new()/s//HostRuntime/' "$work/of_tests/erased/i_shape_tests/shapes.rs"
+    sed -i '0,/HostRuntime::new()/s//HostRuntime/' "$work/of_tests/erased/i_shape_tool_tests/shapes.rs"
     check 'a change of an erased test is found' fails python3 .ci/erased.py "$work/of_tests" rust/i_shape_tests/build.rs
     mkdir -p "$work/empty/erased"
     check 'a folder without an erased file is found' fails python3 .ci/erased.py "$work/empty"

@@ -1,8 +1,8 @@
 //! The names that callers rely on and that the other modules of this crate don't use: the paths, calls and fields of
 //! the Rust crate `i_shape`, as far as they are here, and of what is only here the calls on numbers, `Probe`, counted
 //! calls, the canonical form of a contour and the tests of ranges. If one gets another name, other types or a further
-//! condition, this module no longer checks. Tests use the other names: `i_shape_tests` those of the laws, and with
-//! `refusals` those of the program.
+//! condition, this module no longer checks. Tests use the other names: `i_shape_core_tests` those of the laws,
+//! `i_shape_tool_tests` and `refusals` those of the program.
 
 ghost use Rattle.std.specs.Prelude.{◌≡◌, ◌≤◌, vec_len};
 ghost use Rattle.std.specs.List.{All, sum_by};

@@ -1,7 +1,5 @@
 //! Areas of shapes, of lists and of what is left of an iterator, and contours at the bounds of each width.
 
-use crate::given::contour;
-use crate::row::Row;
 use i_shape::int::IntPoint;
 use i_shape::int::area::{Area, IteratorArea, UnsafeArea};
 use i_shape::int::count::PointsCount;
@@ -10,12 +8,13 @@ use i_shape::int::path::ContourExtension;
 use i_shape::int::shape::IntShape;
 use i_shape::int::simple::SimpleContour;
 use i_shape::{IntNumber, int_path, int_shape};
-use std::process::Abort;
+use i_shape_test_data::given::contour;
+use i_shape_test_data::row::Row;
 use std::test::Fail;
 
 #[test]
 fn an_advanced_iterator_sums_what_is_left(rt: HostRuntime) -> Result<(), Fail> {
-    let row = Row::new(&rt, rt.alloc(), "a square without its first point");
+    let row = Row::new(rt.alloc(), "a square without its first point");
     let square: [IntPoint<i32>; 4] = [
         IntPoint::new(0, 0),
         IntPoint::new(10, 0),
@@ -24,68 +23,80 @@ fn an_advanced_iterator_sums_what_is_left(rt: HostRuntime) -> Result<(), Fail> {
     ];
     let mut points = square.as_slice().iter().copied();
     let _first = points.next();
-    row.equal(IteratorArea::area_two(points), 100, "area_two");
+    let double = IteratorArea::area_two(points);
     let mut points = square.as_slice().iter().copied();
     let _first = points.next();
-    row.equal(IteratorArea::area(points), 50, "area");
+    let area = IteratorArea::area(points);
     let mut points = square.as_slice().iter().copied();
     let _first = points.next();
-    row.equal(points.unsafe_area(), 100, "unsafe_area");
-    Ok(())
+    row.equal(
+        (double, area, points.unsafe_area()),
+        (100, 50, 100),
+        "areas",
+    )
 }
 
 #[test]
 fn contours_are_added_up_before_they_are_halved(rt: HostRuntime) -> Result<(), Fail> {
-    let row = Row::new(&rt, rt.alloc(), "a square with a hole");
+    let row = Row::new(rt.alloc(), "a square with a hole");
     let holed = int_shape![
         row.alloc; [[0, 0], [10, 0], [10, 10], [0, 10]], [[2, 2], [2, 4], [4, 4], [4, 2]]
     ]?;
     let holed = holed.as_slice();
-    row.equal([holed.area_two(), holed.area()], [192_i64, 96], "areas");
-    row.equal(holed.points_count(), 8, "points");
-    let row = Row::new(&rt, rt.alloc(), "two triangles");
+    row.equal([holed.area_two(), holed.area()], [192_i64, 96], "areas")?;
+    row.equal(holed.points_count(), 8, "points")?;
+    let row = Row::new(rt.alloc(), "two triangles");
     let shape = int_shape![row.alloc; [[0, 0], [1, 0], [0, 1]], [[0, 0], [1, 0], [0, 1]]]?;
     let shape = shape.as_slice();
-    row.equal([shape.area_two(), shape.area()], [2_i64, 1], "a shape");
+    row.equal([shape.area_two(), shape.area()], [2_i64, 1], "a shape")?;
     let [one, other] = [
         int_path![row.alloc; [0, 0], [1, 0], [0, 1]]?,
         int_path![row.alloc; [0, 0], [1, 0], [0, 1]]?,
     ];
     let list: [IntShape<i32>; 2] = [vec![in row.alloc; one]?, vec![in row.alloc; other]?];
     let list = list.as_slice();
-    row.equal([list.area_two(), list.area()], [2_i64, 1], "a list");
-    row.equal(list.points_count(), 6, "points of a list");
-    Ok(())
+    row.equal([list.area_two(), list.area()], [2_i64, 1], "a list")?;
+    row.equal(list.points_count(), 6, "points of a list")
 }
 
 /// The contour, a square about zero that is wound so often, has these areas, and is its own end and form. Wound twice,
 /// its area wraps to that of a clockwise one, and it contains nothing.
 fn winds<I: IntNumber>(
-    row: &Row<'_, impl Abort>,
+    row: &Row<'_>,
     (times, points): (isize, &[[I; 2]]),
     areas: [I::Wide; 2],
 ) -> Result<(), Fail> {
-    let given = contour(row, points)?;
+    let given = contour(row.alloc, points)?;
     let middle = IntPoint::new(I::ZERO, I::ZERO);
-    assert!(row.rt; !given.is_empty() && middle.is_in_safe_range());
+    row.holds(!given.is_empty() && middle.is_in_safe_range(), "a point")?;
     let points = given.as_slice();
-    row.holds([points.area_two(), points.area()] == areas, "areas");
-    row.equal(points.is_clockwise_ordered(), times == 2, "clockwise");
-    row.equal(points.contains_point(middle), times == 1, "contains");
-    row.equal(points.winding_number(middle), times, "winds");
-    row.holds(points.is_simple(), "simple");
-    let kept = points.simplified(row.alloc)?.ok_or("it collapsed")?;
-    row.holds(kept == given, "its own end");
-    let form = points.canonical(row.alloc)?.ok_or("it collapsed")?;
-    row.holds(form == given, "its own form");
-    let kept = given.despiked_contour(row.alloc)?.ok_or("it collapsed")?;
-    row.holds(kept == given, "no spike");
-    Ok(())
+    row.holds([points.area_two(), points.area()] == areas, "areas")?;
+    let told = (
+        points.is_clockwise_ordered(),
+        points.contains_point(middle),
+        points.winding_number(middle),
+    );
+    row.equal(
+        told,
+        (times == 2, times == 1, times),
+        "clockwise, contains, winds",
+    )?;
+    row.holds(points.is_simple(), "simple")?;
+    let kept = points.simplified(row.alloc)?;
+    let form = points.canonical(row.alloc)?;
+    let blunt = given.despiked_contour(row.alloc)?;
+    let wanted = Some(&given);
+    let is_kept = [
+        kept.as_ref() == wanted,
+        form.as_ref() == wanted,
+        blunt.as_ref() == wanted,
+    ];
+    row.equal(is_kept, [true; 3], "its own end, its own form, no spike")
 }
 
 /// The square from `-high` to `high` has these areas, once and twice round.
 fn wraps<I: IntNumber>(
-    row: &Row<'_, impl Abort>,
+    row: &Row<'_>,
     [low, high]: [I; 2],
     once: [I::Wide; 2],
     twice: [I::Wide; 2],
@@ -103,14 +114,14 @@ fn wraps<I: IntNumber>(
 
 #[test]
 fn at_the_safe_bounds_one_winding_fits_and_two_wrap(rt: HostRuntime) -> Result<(), Fail> {
-    let row = Row::new(&rt, rt.alloc(), "16 bits");
+    let row = Row::new(rt.alloc(), "16 bits");
     let m: i16 = 16383;
     wraps::<i16>(&row, [-m, m], [2147221512, 1073610756], [-524272, -262136])?;
-    let row = Row::new(&rt, rt.alloc(), "32 bits");
+    let row = Row::new(rt.alloc(), "32 bits");
     let m: i32 = 1073741823;
     let once = [9223372019674906632, 4611686009837453316];
     wraps::<i32>(&row, [-m, m], once, [-34359738352, -17179869176])?;
-    let row = Row::new(&rt, rt.alloc(), "64 bits");
+    let row = Row::new(rt.alloc(), "64 bits");
     let m: i64 = 4611686018427387903;
     let once = [
         170141183460469231657900327421045899272,
@@ -122,20 +133,17 @@ fn at_the_safe_bounds_one_winding_fits_and_two_wrap(rt: HostRuntime) -> Result<(
 
 #[test]
 fn the_longest_edge_of_16_bits_there_and_back(rt: HostRuntime) -> Result<(), Fail> {
-    let row = Row::new(&rt, rt.alloc(), "an edge there and back");
+    let row = Row::new(rt.alloc(), "an edge there and back");
     let m: i16 = 16383;
     let list = [[-m, -m], [m, m], [m, -m], [0, 0]];
-    let given = contour::<i16>(&row, &list)?;
-    let left = contour::<i16>(&row, &list[1..])?;
-    let kept = given
-        .as_slice()
-        .simplified(row.alloc)?
-        .ok_or("it collapsed")?;
-    row.holds(kept == left, "what is left");
-    let kept = given.despiked_contour(row.alloc)?.ok_or("it collapsed")?;
-    row.holds(kept == left, "what is left without spikes");
-    assert!(rt; !given.is_empty() && !left.is_empty());
+    let given = contour::<i16>(row.alloc, &list)?;
+    let left = contour::<i16>(row.alloc, &list[1..])?;
+    let kept = given.as_slice().simplified(row.alloc)?;
+    let blunt = given.despiked_contour(row.alloc)?;
+    let wanted = Some(&left);
+    let is_left = [kept.as_ref() == wanted, blunt.as_ref() == wanted];
+    row.equal(is_left, [true; 2], "what is left, by both cleaners")?;
+    row.holds(!given.is_empty() && !left.is_empty(), "points")?;
     let areas = [given.as_slice().area_two(), left.as_slice().area_two()];
-    row.equal(areas, [-536805378, -536805378], "double areas");
-    Ok(())
+    row.equal(areas, [-536805378, -536805378], "double areas")
 }

@@ -1,17 +1,16 @@
 //! Worked contours at 32 bits, and what each call returns for them.
 
-use crate::given::{contour, pairs, reversed, rotated};
-use crate::plain::{Pair, has_back_vertex, is_rotation};
-use crate::row::Row;
-use crate::texts;
 use i_shape::int::IntPoint;
 use i_shape::int::area::{Area, IteratorArea, UnsafeArea};
 use i_shape::int::despike::{DeSpike, DeSpikeContour};
 use i_shape::int::path::ContourExtension;
 use i_shape::int::simple::{ContourSimplifier, SimpleContour, Simplify};
 use i_shape_core::area::area_of;
+use i_shape_test_data::given::{contour, pairs, reversed, rotated};
+use i_shape_test_data::plain::{Pair, has_back_vertex, is_rotation};
+use i_shape_test_data::row::Row;
+use i_shape_test_data::texts;
 use std::alloc::Global;
-use std::process::Abort;
 use std::test::Fail;
 
 /// The columns: a name; the points; twice their area, which is also that of each contour that is left; the contour
@@ -55,36 +54,35 @@ two ways there and back|-10 -10 -10 10 10 10 -10 10 -10 -10 10 -10|0||5||7|spike
 
 /// The double area of the contour is `two`, and its area is half of that, rounded towards zero, as a slice and as an
 /// iterator.
-fn has_area(row: &Row<'_, impl Abort>, points: &[IntPoint<i32>], two: i64) {
-    assert!(row.rt; !points.is_empty(), "no point");
-    let walked = points.iter().copied();
+fn has_area(row: &Row<'_>, points: &[IntPoint<i32>], two: i64) -> Result<(), Fail> {
+    row.holds(!points.is_empty(), "no point")?;
     let by_walks = [
-        IteratorArea::area_two(walked),
+        IteratorArea::area_two(points.iter().copied()),
         points.iter().copied().unsafe_area(),
     ];
-    row.equal(by_walks, [two, two], "double areas of iterators");
     let by_slices = [points.area_two(), area_of(points)];
-    row.equal(by_slices, [two, two], "double areas");
     let areas = [points.area(), IteratorArea::area(points.iter().copied())];
-    row.equal(areas, [two / 2, two / 2], "areas");
-    row.equal(points.is_clockwise_ordered(), two <= 0, "clockwise");
+    let told = (by_walks, by_slices, areas, points.is_clockwise_ordered());
+    let half = two / 2;
+    let wanted = ([two, two], [two, two], [half, half], two <= 0);
+    row.equal(told, wanted, "double areas, areas, clockwise")
 }
 
 /// The contour is simple exactly if it equals `left`. Each call leaves `left`, and the simplifier does so in this
 /// number of visits, whatever it has cleaned before.
 fn is_simplified(
-    row: &Row<'_, impl Abort>,
+    row: &Row<'_>,
     simplifier: &mut ContourSimplifier,
     [given, left]: [&str; 2],
     visits: u128,
 ) -> Result<(), Fail> {
-    let contour = texts::contour(row, given)?;
+    let contour = texts::contour(row.alloc, given)?;
     let is_clean = !left.is_empty() && given == left;
-    row.equal(contour.as_slice().is_simple(), is_clean, "is_simple");
+    row.equal(contour.as_slice().is_simple(), is_clean, "is_simple")?;
     let kept = contour.as_slice().simplified(row.alloc)?;
     texts::leaves(row, kept, left, "simplified")?;
     let (kept, walked) = simplifier.simplify_counted(contour.as_slice())?;
-    row.equal(walked, visits, "visits");
+    row.equal(walked, visits, "visits")?;
     texts::leaves(row, kept, left, "simplify_counted")?;
     let kept = simplifier.simplify_contour(contour.as_slice())?;
     texts::leaves(row, kept, left, "simplify_contour")?;
@@ -93,42 +91,42 @@ fn is_simplified(
 }
 
 /// In place the contour becomes `left` too, and a second call changes nothing.
-fn is_simplified_in_place(row: &Row<'_, impl Abort>, [given, left]: [&str; 2]) -> Result<(), Fail> {
-    let mut cleaned = texts::contour(row, given)?;
+fn is_simplified_in_place(row: &Row<'_>, [given, left]: [&str; 2]) -> Result<(), Fail> {
+    let mut cleaned = texts::contour(row.alloc, given)?;
     let is_clean = !left.is_empty() && given == left;
     let told = [cleaned.simplify_contour()?, cleaned.simplify_contour()?];
-    row.equal(told, [!is_clean, left.is_empty()], "what is told in place");
+    row.equal(told, [!is_clean, left.is_empty()], "what is told in place")?;
     texts::leaves(row, Some(cleaned), left, "what is left in place")
 }
 
 /// The contour has spikes or none. Each call of the despiker leaves `left`, in this number of visits. In place a
 /// contour without spikes is unchanged, another becomes `left`, and a second call changes nothing.
 fn is_despiked(
-    row: &Row<'_, impl Abort>,
+    row: &Row<'_>,
     [given, left]: [&str; 2],
     visits: u128,
     has_spikes: bool,
 ) -> Result<(), Fail> {
-    let mut cleaned = texts::contour(row, given)?;
-    row.equal(cleaned.has_no_spikes(), !has_spikes, "has_no_spikes");
+    let mut cleaned = texts::contour(row.alloc, given)?;
+    row.equal(cleaned.has_no_spikes(), !has_spikes, "has_no_spikes")?;
     let (counted, walked) = cleaned.despiked_counted(row.alloc)?;
-    row.equal(walked, visits, "visits of the despiker");
+    row.equal(walked, visits, "visits of the despiker")?;
     texts::leaves(row, counted, left, "despiked_counted")?;
     let kept = cleaned.despiked_contour(row.alloc)?;
     texts::leaves(row, kept, left, "despiked_contour")?;
     let told = [cleaned.remove_spikes()?, cleaned.remove_spikes()?];
     let left = if has_spikes { left } else { given };
-    row.equal(told, [has_spikes, left.is_empty()], "spikes told in place");
+    row.equal(told, [has_spikes, left.is_empty()], "spikes told in place")?;
     texts::leaves(row, Some(cleaned), left, "despiked in place")
 }
 
 /// Both calls give this canonical form.
 fn has_form(
-    row: &Row<'_, impl Abort>,
+    row: &Row<'_>,
     simplifier: &mut ContourSimplifier,
     [given, form]: [&str; 2],
 ) -> Result<(), Fail> {
-    let given = texts::contour(row, given)?;
+    let given = texts::contour(row.alloc, given)?;
     let kept = given.as_slice().canonical(row.alloc)?;
     texts::leaves(row, kept, form, "canonical")?;
     let kept = simplifier.canonical(given.as_slice())?;
@@ -155,12 +153,12 @@ fn each_call_returns_what_its_row_says(rt: HostRuntime) -> Result<(), Fail> {
         else {
             return Err(Fail::new("a row has nine columns"));
         };
-        let row = Row::new(&rt, alloc, *name);
+        let row = Row::new(alloc, *name);
         let two = two.parse::<i64>()?;
         for list in [*given, *simple, *despiked] {
-            let points = texts::contour(&row, list)?;
+            let points = texts::contour(row.alloc, list)?;
             if !points.is_empty() {
-                has_area(&row, points.as_slice(), two);
+                has_area(&row, points.as_slice(), two)?;
             }
         }
         let visits = visits.parse::<u128>()?;
@@ -175,10 +173,9 @@ fn each_call_returns_what_its_row_says(rt: HostRuntime) -> Result<(), Fail> {
 
 #[test]
 fn an_octagon_of_large_coordinates(rt: HostRuntime) -> Result<(), Fail> {
-    let row = Row::new(&rt, rt.alloc(), "an octagon");
-    let octagon = texts::contour(&row, OCTAGON)?;
-    has_area(&row, octagon.as_slice(), 747667906887680000);
-    Ok(())
+    let row = Row::new(rt.alloc(), "an octagon");
+    let octagon = texts::contour(row.alloc, OCTAGON)?;
+    has_area(&row, octagon.as_slice(), 747667906887680000)
 }
 
 const OCTAGON: &str = "\
@@ -188,22 +185,22 @@ const OCTAGON: &str = "\
 /// A thousand points on a line, and one point a thousand times, collapse in 998 to 3,000 visits.
 #[test]
 fn a_thousand_points_on_a_line_or_at_one_place_collapse(rt: HostRuntime) -> Result<(), Fail> {
-    let row = Row::new(&rt, rt.alloc(), "a thousand points");
+    let row = Row::new(rt.alloc(), "a thousand points");
     let place = IntPoint::new(5, 5);
-    assert!(rt; place.is_in_safe_range());
+    row.holds(place.is_in_safe_range(), "a safe place")?;
     for is_line in [true, false] {
         let mut points = Vec::new(row.alloc);
         for x in 0..1000_i32 {
             points.push(if is_line { [x, 0] } else { [5, 5] })?;
         }
-        let given = contour::<i32>(&row, points.as_slice())?;
+        let given = contour::<i32>(row.alloc, points.as_slice())?;
         let (kept, visits) = ContourSimplifier::new(row.alloc).simplify_counted(given.as_slice())?;
         let (despiked, walked) = given.despiked_counted(row.alloc)?;
-        row.holds(kept.is_none() && despiked.is_none(), "it collapses");
-        row.holds(998 <= visits && visits <= 3000, "visits");
-        row.holds(998 <= walked && walked <= 3000, "visits of the despiker");
-        has_area(&row, given.as_slice(), 0);
-        row.holds(!given.as_slice().contains_point(place), "contains a point");
+        row.holds(kept.is_none() && despiked.is_none(), "it collapses")?;
+        row.holds(998 <= visits && visits <= 3000, "visits")?;
+        row.holds(998 <= walked && walked <= 3000, "visits of the despiker")?;
+        has_area(&row, given.as_slice(), 0)?;
+        row.holds(!given.as_slice().contains_point(place), "contains a point")?;
     }
     Ok(())
 }
@@ -231,19 +228,19 @@ fn is_turned(alloc: Global, points: &[IntPoint<i32>], ring: &[Pair]) -> Result<b
 }
 
 /// The contour leaves the ring by both cleaners, and has it as its form.
-fn leaves_ring(row: &Row<'_, impl Abort>, list: &[Pair], ring: &[Pair]) -> Result<Vec<Pair>, Fail> {
-    let given = contour::<i32>(row, list)?;
+fn leaves_ring(row: &Row<'_>, list: &[Pair], ring: &[Pair]) -> Result<Vec<Pair>, Fail> {
+    let given = contour::<i32>(row.alloc, list)?;
     let kept = given
         .as_slice()
         .simplified(row.alloc)?
         .ok_or("it collapsed")?;
-    row.holds(is_turned(row.alloc, kept.as_slice(), ring)?, "the ring");
+    row.holds(is_turned(row.alloc, kept.as_slice(), ring)?, "the ring")?;
     let form = given
         .as_slice()
         .canonical(row.alloc)?
         .ok_or("it collapsed")?;
     let form = pairs(row.alloc, form.as_slice())?;
-    row.holds(form.as_slice() == ring, "the form");
+    row.holds(form.as_slice() == ring, "the form")?;
     let despiked = given.despiked_contour(row.alloc)?.ok_or("it collapsed")?;
     let left = despiked
         .as_slice()
@@ -252,27 +249,26 @@ fn leaves_ring(row: &Row<'_, impl Abort>, list: &[Pair], ring: &[Pair]) -> Resul
     row.holds(
         is_turned(row.alloc, left.as_slice(), ring)?,
         "the despiker's ring",
-    );
+    )?;
     let survivors = pairs(row.alloc, despiked.as_slice())?;
-    row.holds(!has_back_vertex(survivors.as_slice()), "a spike is left");
+    row.holds(!has_back_vertex(survivors.as_slice()), "a spike is left")?;
     Ok(survivors)
 }
 
 /// In place the contour loses spikes, and then has none, and the ring is left.
-fn loses_spikes(row: &Row<'_, impl Abort>, list: &[Pair], ring: &[Pair]) -> Result<(), Fail> {
-    let mut given = contour::<i32>(row, list)?;
-    row.holds(!given.has_no_spikes(), "has_no_spikes");
+fn loses_spikes(row: &Row<'_>, list: &[Pair], ring: &[Pair]) -> Result<(), Fail> {
+    let mut given = contour::<i32>(row.alloc, list)?;
+    row.holds(!given.has_no_spikes(), "has_no_spikes")?;
     let told = [given.remove_spikes()?, given.remove_spikes()?];
-    row.equal(told, [true, false], "what is told of spikes");
-    row.holds(is_turned(row.alloc, given.as_slice(), ring)?, "in place");
-    Ok(())
+    row.equal(told, [true, false], "what is told of spikes")?;
+    row.holds(is_turned(row.alloc, given.as_slice(), ring)?, "in place")
 }
 
 #[test]
 fn every_start_and_direction_leaves_the_same_ring(rt: HostRuntime) -> Result<(), Fail> {
     let alloc = rt.alloc();
     for (name, ring, is_spiked) in &HOSTILE {
-        let row = Row::new(&rt, alloc, *name);
+        let row = Row::new(alloc, *name);
         let list = texts::points(alloc, *name)?;
         let ring = texts::points(alloc, *ring)?;
         let back = rotated(alloc, ring.as_slice(), 1.min(ring.len()))?;
@@ -284,7 +280,7 @@ fn every_start_and_direction_leaves_the_same_ring(rt: HostRuntime) -> Result<(),
                 let (list, ring) = (list.as_slice(), ring.as_slice());
                 let despiked = leaves_ring(&row, list, ring)?;
                 if *is_spiked {
-                    row.holds(is_rotation(despiked.as_slice(), ring), "despiked");
+                    row.holds(is_rotation(despiked.as_slice(), ring), "despiked")?;
                     loses_spikes(&row, list, ring)?;
                 }
             }

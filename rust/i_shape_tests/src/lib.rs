@@ -1,5 +1,5 @@
-//! The tests of `crates/i_shape_tests`, and of `crates/callers` through them, over erased Rust; those of `crates/refusals`,
-//! with each growth of memory refused in turn; those of reading the program's input; and one over points of no size.
+//! The tests of `crates/*_tests`, and of `crates/callers` through them, over erased Rust; those of `crates/refusals`, with
+//! each growth of memory refused in turn; those of reading the program's input; and one over points of no size.
 #![cfg(test)]
 #![deny(unsafe_code)]
 

@@ -1,0 +1,5 @@
+//! Tests of contacts.
+#![tactic(auto)]
+
+#[cfg(test)]
+mod contacts;
