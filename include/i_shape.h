@@ -274,7 +274,8 @@ int32_t i_shape_kinds_of_contacts_i32(const i_shape_point_i32 *edges, size_t cou
  * three points, not all equal, no two edges are in contact, and each vertex of a hole lies inside the outer contour and
  * inside no other hole: about it, the winding number of the outer contour isn't 0, and that of each other hole is 0.
  * Contours run in either direction; a polygon without contours is valid. Faults come in the order of their kinds, those
- * of a kind by place. Unlike by OGC's rules, rings may not touch at a point. */
+ * of a kind by place. Unlike by OGC's rules, contours may not touch at a point; i_shape_touching_validity_shapes_iW allows
+ * it. */
 
 /* The first fault of a polygon, or I_SHAPE_VALID, in kind. Contours and points are named by their indices in all
  * contours and in points; first and second are 0 where the kind doesn't use them. */
@@ -284,7 +285,8 @@ enum {
     I_SHAPE_TOO_FEW_POINTS = 1, /* first: a contour with fewer than three points, or with all points equal */
     I_SHAPE_CONTACT = 2,        /* first, second: the points from which two edges in contact lead, the lesser index first */
     I_SHAPE_HOLE_OUTSIDE = 3,   /* first: a hole with a vertex about which the outer contour doesn't wind */
-    I_SHAPE_HOLE_WITHIN = 4     /* first: a hole with a vertex about which another hole winds; second: that hole */
+    I_SHAPE_HOLE_WITHIN = 4,    /* first: a hole with a vertex about which another hole winds; second: that hole */
+    I_SHAPE_DISCONNECTED = 5    /* where contours may touch: the edges first and second touch, and close a circle of contours */
 };
 
 /* The first fault of each polygon, into out. It returns 0. I_SHAPE_BAD_OFFSETS: contours[] or shapes[] are wrong as
@@ -293,6 +295,21 @@ enum {
  * most contours failed; if another allocation fails, the faults are the same. After a code, and behind a fault for each
  * polygon, out is as it was. */
 int32_t i_shape_validity_shapes_i32(const i_shape_point_i32 *points, size_t count, const size_t *contours, size_t contour_offset_count, const size_t *shapes, size_t shape_offset_count, i_shape_fault *out, size_t room);
+/* The same if two contours of a polygon may touch: by OGC's rules, except that repeated points are faults. A polygon is
+ * valid if each contour has at least three points, not all equal; edges are in contact only if they are of two contours
+ * and touch, that is, share one point and don't cross; each point of a hole's edges lies inside the outer contour or on
+ * it, and none inside another hole; and the inside is connected: contours that share a point are joined by no other
+ * points, also not by way of other contours. Kinds and places are those above, but for these:
+ *
+ * - I_SHAPE_CONTACT: the first contact of edges that are of one contour, cross or overlap.
+ * - I_SHAPE_HOLE_OUTSIDE, I_SHAPE_HOLE_WITHIN: any point of the hole's edges counts, not only its vertices.
+ * - I_SHAPE_DISCONNECTED: first and second are the points from which two edges lead that touch, the lesser index first.
+ *   Their contours are also joined by touches at points that are less, by x and then by y. Of such edges they are those
+ *   that touch at the least point, and there the first.
+ *
+ * The codes are those above, but for I_SHAPE_NO_MEMORY: there is a polygon, and an allocation failed, of a fault for each
+ * polygon, of that copy of the offsets, or where edges of a polygon are in contact. */
+int32_t i_shape_touching_validity_shapes_i32(const i_shape_point_i32 *points, size_t count, const size_t *contours, size_t contour_offset_count, const size_t *shapes, size_t shape_offset_count, i_shape_fault *out, size_t room);
 
 /* Twice the signed area, positive for a counterclockwise contour; false, and *area as it was, if there is no point. No
  * safe range is asked: a sum that doesn't fit wraps. It takes no memory. At 16 bits the area has 32, at 64 bits it is
@@ -355,6 +372,7 @@ ptrdiff_t i_shape_contacts_i16(const i_shape_point_i16 *points, size_t count, i_
 ptrdiff_t i_shape_contacts_of_rings_i16(const i_shape_point_i16 *points, size_t count, const size_t *offsets, size_t offset_count, i_shape_contact *out, size_t room);
 int32_t i_shape_kinds_of_contacts_i16(const i_shape_point_i16 *edges, size_t count, uint8_t *out, size_t room);
 int32_t i_shape_validity_shapes_i16(const i_shape_point_i16 *points, size_t count, const size_t *contours, size_t contour_offset_count, const size_t *shapes, size_t shape_offset_count, i_shape_fault *out, size_t room);
+int32_t i_shape_touching_validity_shapes_i16(const i_shape_point_i16 *points, size_t count, const size_t *contours, size_t contour_offset_count, const size_t *shapes, size_t shape_offset_count, i_shape_fault *out, size_t room);
 bool i_shape_area_two_i16(const i_shape_point_i16 *points, size_t count, int32_t *area);
 int32_t i_shape_is_simple_contours_i16(const i_shape_point_i16 *points, size_t count, const size_t *offsets, size_t offset_count, uint8_t *out, size_t room);
 int32_t i_shape_has_no_spikes_contours_i16(const i_shape_point_i16 *points, size_t count, const size_t *offsets, size_t offset_count, uint8_t *out, size_t room);
@@ -399,6 +417,7 @@ ptrdiff_t i_shape_contacts_i64(const i_shape_point_i64 *points, size_t count, i_
 ptrdiff_t i_shape_contacts_of_rings_i64(const i_shape_point_i64 *points, size_t count, const size_t *offsets, size_t offset_count, i_shape_contact *out, size_t room);
 int32_t i_shape_kinds_of_contacts_i64(const i_shape_point_i64 *edges, size_t count, uint8_t *out, size_t room);
 int32_t i_shape_validity_shapes_i64(const i_shape_point_i64 *points, size_t count, const size_t *contours, size_t contour_offset_count, const size_t *shapes, size_t shape_offset_count, i_shape_fault *out, size_t room);
+int32_t i_shape_touching_validity_shapes_i64(const i_shape_point_i64 *points, size_t count, const size_t *contours, size_t contour_offset_count, const size_t *shapes, size_t shape_offset_count, i_shape_fault *out, size_t room);
 bool i_shape_area_two_i64(const i_shape_point_i64 *points, size_t count, i_shape_halves *area);
 int32_t i_shape_is_simple_contours_i64(const i_shape_point_i64 *points, size_t count, const size_t *offsets, size_t offset_count, uint8_t *out, size_t room);
 int32_t i_shape_has_no_spikes_contours_i64(const i_shape_point_i64 *points, size_t count, const size_t *offsets, size_t offset_count, uint8_t *out, size_t room);

@@ -92,7 +92,7 @@ pack_program() {
 # The verdict of each crate that a release rests on or claims, from nothing: in a copy of these, for which the kit has kept nothing.
 pack_proof() {
     local name=i_shape-$version-proof crate
-    local proved=(i_shape_core i_shape_contacts i_shape_source i_shape_laws i_shape i_shape_tool i_shape_tool_main i_shape_c i_shape_c_calls)
+    local proved=(i_shape_core i_shape_contacts i_shape_touching i_shape_source i_shape_laws i_shape i_shape_tool i_shape_tool_main i_shape_c i_shape_c_calls)
     mkdir "$work/anew" "$work/$name"
     tar --create --exclude=out -C "$top" HANDLES "${proved[@]/#/crates/}" | tar -x -C "$work/anew"
     grep -E "^($(IFS='|' && echo "${proved[*]}"))[ :]" "$top/crates.txt" > "$work/anew/crates.txt"

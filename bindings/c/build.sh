@@ -72,7 +72,7 @@ is_built() {
 prove_all() {
     has_room 4000
     touch "$out/build.started"
-    for library in i_shape_core i_shape_contacts i_shape_source i_shape i_shape_c i_shape_c_calls; do
+    for library in i_shape_core i_shape_contacts i_shape_touching i_shape_source i_shape i_shape_c i_shape_c_calls; do
         prove "$library" lib --jobs "$jobs"
     done
     touch -r "$out/build.started" "$archive"

@@ -6,6 +6,9 @@ use Rattle.i_shape.specs.Point.{Point}
 use Rattle.i_shape_contacts.specs.Validity.{IsFirstFault}
 use Rattle.i_shape_contacts.specs.declared.validity.Validity.{Validity}
 use Rattle.i_shape_contacts.specs.declared.validity.Validity.TheVariants.{Valid, TooFewPoints, Contact, HoleOutside, HoleWithin}
+use Rattle.i_shape_touching.specs.Touching.{IsFirstTouchingFault}
+use Rattle.i_shape_touching.specs.declared.validity.TouchingValidity.{TouchingValidity}
+use Rattle.i_shape_touching.specs.declared.validity.TouchingValidity.TheVariants.{Valid, TooFewPoints, Contact, HoleOutside, HoleWithin, Disconnected}
 use Rattle.i_shape_c.specs.Batch.{offset, AreSafeContours}
 use Rattle.i_shape_c.specs.Codes.{Refuses}
 use Rattle.i_shape_c.specs.Polygons.{PolygonArrays, PartsPolygons}
@@ -39,29 +42,47 @@ placed contour point (Contact it) = fault 2 (point + it.first) (point + it.secon
 placed contour point (HoleOutside k) = fault 3 (contour + k) 0
 placed contour point (HoleWithin k j) = fault 4 (contour + k) (contour + j)
 
--- `written` is the first fault of the polygon whose contours have these offsets and begin at index `contour`
-pub record IsFaultOf (points : List Point) (offsets : List ℕ) (contour : ℕ) (written : Fault) : Type 0 where
-  pub validity : Validity
-  pub first : IsFirstFault (rebased offsets) (points_between points offsets) validity
-  pub is : written ≡ placed contour (offset offsets 0) validity
+-- a polygon's fault if its contours may touch, shifted in the same way
+abbrev pub placed_touching : ℕ → ℕ → TouchingValidity → Fault
+placed_touching contour point Valid = fault 0 0 0
+placed_touching contour point (TooFewPoints k) = fault 1 (contour + k) 0
+placed_touching contour point (Contact it) = fault 2 (point + it.first) (point + it.second)
+placed_touching contour point (HoleOutside k) = fault 3 (contour + k) 0
+placed_touching contour point (HoleWithin k j) = fault 4 (contour + k) (contour + j)
+placed_touching contour point (Disconnected it) = fault 5 (point + it.first) (point + it.second)
 
--- `written` is the first fault of polygon k
-abbrev pub IsFaultAt : {P : Type 0} → (P → Point) → PolygonArrays P → ℕ → Fault → Type 0
-IsFaultAt point given k = IsFaultOf (map point given.points) (polygon_offsets given.contours given.shapes k) (offset given.shapes k)
+-- `written` is the first fault, by IsFirst, of the polygon whose contours have these offsets and begin at index
+-- `contour`
+pub record IsPlacedFault {V : Type 0} (IsFirst : List ℕ → List Point → V → Type 0) (place : ℕ → ℕ → V → Fault) (points : List Point) (offsets : List ℕ) (contour : ℕ) (written : Fault) : Type 0 where
+  pub validity : V
+  pub first : IsFirst (rebased offsets) (points_between points offsets) validity
+  pub is : written ≡ place contour (offset offsets 0) validity
 
--- the new items begin with the first fault of each polygon, in order, and are otherwise unchanged
-pub record AreFaults {P : Type 0} (point : P → Point) (given : PolygonArrays P) (old new : List Fault) : Type 0 where
-  pub each : AllZip (IsFaultAt point given) (range_with_len 0 (length given.shapes - 1)) (take (length given.shapes - 1) new)
+-- `written` is the first fault of that polygon
+abbrev pub IsFaultOf : List Point → List ℕ → ℕ → Fault → Type 0
+IsFaultOf = IsPlacedFault IsFirstFault placed
+
+-- `written` is the first fault of that polygon if its contours may touch
+abbrev pub IsTouchingFaultOf : List Point → List ℕ → ℕ → Fault → Type 0
+IsTouchingFaultOf = IsPlacedFault IsFirstTouchingFault placed_touching
+
+-- `written` is the first fault, by Is, of polygon k
+abbrev pub IsFaultAt : {P : Type 0} → (List Point → List ℕ → ℕ → Fault → Type 0) → (P → Point) → PolygonArrays P → ℕ → Fault → Type 0
+IsFaultAt Is point given k = Is (map point given.points) (polygon_offsets given.contours given.shapes k) (offset given.shapes k)
+
+-- the new items begin with the first fault, by Is, of each polygon, in order, and are otherwise unchanged
+pub record AreFaults {P : Type 0} (Is : List Point → List ℕ → ℕ → Fault → Type 0) (point : P → Point) (given : PolygonArrays P) (old new : List Fault) : Type 0 where
+  pub each : AllZip (IsFaultAt Is point given) (range_with_len 0 (length given.shapes - 1)) (take (length given.shapes - 1) new)
   pub rest : drop (length given.shapes - 1) new ≡ drop (length given.shapes - 1) old
 
 -- 0 and the fault of each polygon, or a code with nothing written
-abbrev pub FaultsAnswer : {P : Type 0} → (P → Point) → PolygonArrays P → List Fault → List Fault → ℤ → Type 0
-FaultsAnswer point given old new (pos zero) = AreFaults point given old new
-FaultsAnswer point given old new (pos (suc n)) = ⊥
-FaultsAnswer point given old new (negsuc n) = (n < 4) × (new ≡ old)
+abbrev pub FaultsAnswer : {P : Type 0} → (List Point → List ℕ → ℕ → Fault → Type 0) → (P → Point) → PolygonArrays P → List Fault → List Fault → ℤ → Type 0
+FaultsAnswer Is point given old new (pos zero) = AreFaults Is point given old new
+FaultsAnswer Is point given old new (pos (suc n)) = ⊥
+FaultsAnswer Is point given old new (negsuc n) = (n < 4) × (new ≡ old)
 
--- what a call returns and writes for the first fault of each polygon, and exactly when it returns each code; without
--- polygons it never returns that for memory
-pub record FindsFaults {P : Type 0} (width : Width) (point : P → Point) (given : PolygonArrays P) (old new : List Fault) (result : ℤ) : Type 0 where
-  pub answer : FaultsAnswer point given old new result
+-- what a call returns and writes for the first fault, by Is, of each polygon, and exactly when it returns each code;
+-- without polygons it never returns that for memory
+pub record FindsFaults {P : Type 0} (Is : List Point → List ℕ → ℕ → Fault → Type 0) (width : Width) (point : P → Point) (given : PolygonArrays P) (old new : List Fault) (result : ℤ) : Type 0 where
+  pub answer : FaultsAnswer Is point given old new result
   pub refuses : Refuses (PartsPolygons (length given.points) given.contours given.shapes) (length given.shapes - 1 ≤ length old) (AreSafeContours width point given.points given.contours) (length given.shapes ≡ 1) result

@@ -21,6 +21,7 @@ pub mod places;
 pub mod point;
 pub mod polygons;
 pub mod predicates;
+pub mod touching;
 pub mod validity;
 pub mod version;
 pub mod winding;

@@ -2,6 +2,7 @@
 
 ghost use Rattle.std.specs.Prelude.{◌≡◌, ◌↔◌, ◌+◌, ◌-◌, ◌^◌, ◌≤◌, ◌<◌, length, map, take, IsTrue, OnOk, OnErr};
 ghost use Rattle.i_shape_c.specs.Batch.{offset, PartsPoints, AreSafeContours};
+ghost use Rattle.i_shape_c.specs.Codes.{IsRefusal};
 ghost use Rattle.i_shape_c.specs.Points.{point_by};
 ghost use Rattle.i_shape_c.specs.Polygons.{polygon_arrays, PartsPolygons};
 ghost use Rattle.i_shape_c.specs.Validity.{HasOffsetsRoom, rebased, IsFaultOf, AreFaults, FindsFaults};
@@ -23,19 +24,19 @@ pub struct Fault {
 }
 
 /// The kind if there is no fault.
-const VALID: usize = 0;
+pub const VALID: usize = 0;
 
 /// The kind of a contour, `first`, that has fewer than three points, or all of whose points are equal.
-const TOO_FEW_POINTS: usize = 1;
+pub const TOO_FEW_POINTS: usize = 1;
 
 /// The kind of two edges in contact: `first` and `second` are the points from which they lead.
-const CONTACT: usize = 2;
+pub const CONTACT: usize = 2;
 
 /// The kind of a hole, `first`, that is outside the outer contour.
-const HOLE_OUTSIDE: usize = 3;
+pub const HOLE_OUTSIDE: usize = 3;
 
 /// The kind of a hole, `first`, that is within another, `second`.
-const HOLE_WITHIN: usize = 4;
+pub const HOLE_WITHIN: usize = 4;
 
 /// Writes the first fault of each polygon to the front of `out`. Returns 0, or a code below 0. Memory for a copy of the
 /// offsets of one polygon is needed; if other memory runs out, the result is the same.
@@ -46,18 +47,33 @@ pub fn find_faults<P: CPoint>(
     shapes: &[usize],
     out: &mut [Fault],
 ) -> i32
-    ensures { FindsFaults P.Coordinate.width (point_by P.Coordinate.value P.point)
+    ensures { FindsFaults IsFaultOf P.Coordinate.width (point_by P.Coordinate.value P.point)
         (polygon_arrays points.now contours.now shapes.now) out.old out.new result }
 {
-    let is_parted = are_polygons(points.len(), contours, shapes);
-    let has_room = has_items(shapes, out.len());
-    if let Some(refusal) = refusal(points, contours, is_parted, has_room) {
+    if let Some(refusal) = refusal_of_items(points, contours, shapes, out.len()) {
         return refusal.code();
     }
     match write_faults(alloc, points, contours, shapes, out) {
         Ok(()) => 0,
         Err(_) => Refusal::NoMemory.code(),
     }
+}
+
+/// Returns why a call that writes an item of each polygon is refused, or `None` if it isn't.
+pub fn refusal_of_items<P: CPoint>(
+    points: &[P],
+    contours: &[usize],
+    shapes: &[usize],
+    room: usize,
+) -> Option<Refusal>
+    ensures { IsRefusal (PartsPolygons (length points.now) contours.now shapes.now)
+        (length shapes.now - 1 ≤ room)
+        (AreSafeContours P.Coordinate.width (point_by P.Coordinate.value P.point)
+        points.now contours.now) result }
+{
+    let is_parted = are_polygons(points.len(), contours, shapes);
+    let has_room = has_items(shapes, room);
+    refusal(points, contours, is_parted, has_room)
 }
 
 /// Returns whether there is room for an item of each polygon.
@@ -83,7 +99,7 @@ fn write_faults<P: CPoint>(
     requires room { length shapes.now - 1 ≤ length out.old }
     requires points_safe { AreSafeContours P.Coordinate.width
         (point_by P.Coordinate.value P.point) points.now contours.now }
-    ensures ok { OnOk result (AreFaults (point_by P.Coordinate.value P.point)
+    ensures ok { OnOk result (AreFaults IsFaultOf (point_by P.Coordinate.value P.point)
         (polygon_arrays points.now contours.now shapes.now) out.old out.new) }
     ensures err { OnErr result (out.new ≡ out.old) }
     ensures memory { OnErr result (length shapes.now ≡ 1 → ⊥) }
@@ -110,7 +126,7 @@ fn write_each<P: CPoint>(
     requires room { length shapes.now - 1 ≤ length out.old }
     requires points_safe { AreSafeContours P.Coordinate.width
         (point_by P.Coordinate.value P.point) points.now contours.now }
-    ensures { AreFaults (point_by P.Coordinate.value P.point)
+    ensures { AreFaults IsFaultOf (point_by P.Coordinate.value P.point)
         (polygon_arrays points.now contours.now shapes.now) out.old out.new }
 {
     for place in 1..shapes.len() {
@@ -121,7 +137,7 @@ fn write_each<P: CPoint>(
 }
 
 /// Returns the number of offsets of the polygon with the most contours.
-fn most_offsets(shapes: &[usize]) -> usize
+pub fn most_offsets(shapes: &[usize]) -> usize
     requires { PartsPoints (2 ^ 63) shapes.now }
     ensures { HasOffsetsRoom shapes.now result }
 {
@@ -189,7 +205,7 @@ fn fault_of<P: CPoint>(
 }
 
 /// Writes the offsets, less the first of them, to the front of `own`.
-fn rebase(offsets: &[usize], own: &mut [usize])
+pub fn rebase(offsets: &[usize], own: &mut [usize])
     requires parted { PartsPoints (offset offsets.now (length offsets.now - 1)) offsets.now }
     requires room { length offsets.now ≤ length own.old }
     ensures written { take (length offsets.now) own.new ≡ rebased offsets.now }

@@ -16,7 +16,7 @@ ghost use Rattle.i_shape_c.specs.Windings.{WindsAbout, WindsAboutEach};
 ghost use Rattle.i_shape_c.specs.Locations.{query, FillsPoint, IsFilledByte, IsLocated, TellsEach};
 ghost use Rattle.i_shape_c.specs.Places.{IsFirstUnsafe};
 ghost use Rattle.i_shape_c.specs.Contacts.{FindsContact, FindsContacts, FindsRingContact, FindsRingContacts};
-ghost use Rattle.i_shape_c.specs.Validity.{FindsFaults};
+ghost use Rattle.i_shape_c.specs.Validity.{IsFaultOf, IsTouchingFaultOf, FindsFaults};
 ghost use Rattle.i_shape_c.specs.Kinds.{FindsKinds};
 ghost use Rattle.i_shape_c.specs.Formed.{feature_arrays, FormsEach, FormsFeatures};
 ghost use Rattle.i_shape_c.specs.Holders.{holders_query, FindsHolders};
@@ -42,6 +42,7 @@ use i_shape_c::polygons::clean_shapes;
 use i_shape_c::predicates::{
     Bulging, Simple, SimplePolygon, Spikeless, contains, is_safe, test_contour,
 };
+use i_shape_c::touching::find_touching_faults;
 use i_shape_c::validity::{Fault, find_faults};
 use i_shape_c::winding::{winding, windings};
 use i_shape_contacts::Contact;
@@ -518,10 +519,25 @@ pub extern "C" fn i_shape_validity_shapes_i16(
     shapes: &[usize],
     out: &mut [Fault],
 ) -> i32
-    ensures { FindsFaults w16 point_i16 (polygon_arrays points.now contours.now shapes.now) out.old
-        out.new result }
+    ensures { FindsFaults IsFaultOf w16 point_i16
+        (polygon_arrays points.now contours.now shapes.now) out.old out.new result }
 {
     find_faults(alloc, points, contours, shapes, out)
+}
+
+/// Writes the first fault of each polygon if its contours may touch at single points. Returns 0, or a code below 0.
+#[unsafe(no_mangle)]
+pub extern "C" fn i_shape_touching_validity_shapes_i16(
+    alloc: Global,
+    points: &[PointI16],
+    contours: &[usize],
+    shapes: &[usize],
+    out: &mut [Fault],
+) -> i32
+    ensures { FindsFaults IsTouchingFaultOf w16 point_i16
+        (polygon_arrays points.now contours.now shapes.now) out.old out.new result }
+{
+    find_touching_faults(alloc, points, contours, shapes, out)
 }
 
 /// Writes the canonical form of each polygon alone: that of each contour, empty where it collapses, and behind the first
