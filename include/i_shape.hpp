@@ -1,7 +1,7 @@
 /* The calls of i_shape.h for C++17, for points of any type that is two signed integers of one type. These are templates
  * over libi_shape.a or libi_shape.so. Each call but flat, nested and chunks makes the C call of its name, less _into, which
- * i_shape.h describes; remove_spikes makes despike_shapes, contains makes contains_by, and validity makes
- * validity_shapes. docs/CPP.md has samples.
+ * i_shape.h describes; remove_spikes makes despike_shapes, contains makes contains_by, validity makes validity_shapes,
+ * and touching_validity makes touching_validity_shapes. docs/CPP.md has samples.
  *
  * These take points and offsets from whatever std::data and std::size take: a vector, an array, or a pointer and a count
  * as i_shape::Span. Offsets are of any unsigned type; those of another one than std::size_t are copied. Results of
@@ -198,7 +198,8 @@ enum class FaultKind : std::size_t {
     too_few_points = I_SHAPE_TOO_FEW_POINTS, /* first: a contour with fewer than three points, or with all points equal */
     contact = I_SHAPE_CONTACT,               /* first, second: the points from which two edges in contact lead */
     hole_outside = I_SHAPE_HOLE_OUTSIDE,     /* first: a hole with a vertex about which the outer contour doesn't wind */
-    hole_within = I_SHAPE_HOLE_WITHIN        /* first: a hole with a vertex about which another hole winds; second: that hole */
+    hole_within = I_SHAPE_HOLE_WITHIN,       /* first: a hole with a vertex about which another hole winds; second: that hole */
+    disconnected = I_SHAPE_DISCONNECTED      /* of touching_validity alone: the edges first and second touch, and close a circle of contours */
 };
 
 /* The first fault of a polygon. The places are those in the contours and points of all polygons, 0 where the kind has
@@ -259,6 +260,7 @@ struct Calls {
         static constexpr auto contacts_of_rings = i_shape_contacts_of_rings_i##W; \
         static constexpr auto kinds_of_contacts = i_shape_kinds_of_contacts_i##W; \
         static constexpr auto validity_shapes = i_shape_validity_shapes_i##W; \
+        static constexpr auto touching_validity_shapes = i_shape_touching_validity_shapes_i##W; \
         static constexpr auto area_two = i_shape_area_two_i##W; \
         static constexpr auto is_simple_contours = i_shape_is_simple_contours_i##W; \
         static constexpr auto has_no_spikes_contours = i_shape_has_no_spikes_contours_i##W; \
@@ -992,19 +994,33 @@ std::vector<ContactKind> kinds_of_contacts(const Points &edges) {
     return detail::kinds_of<Points>(edges, edges);
 }
 
+namespace detail {
+/* What a call of C that writes a fault for each polygon writes. */
+template <class Points, class Call, class GivenContours, class GivenShapes>
+std::vector<Fault> faults_of(Call call, const Points &points, const GivenContours &given_contours, const GivenShapes &given_shapes) {
+    const auto all_contours = as_offsets(given_contours);
+    const auto all_shapes = as_offsets(given_shapes);
+    const Offsets contours = all_contours, shapes = all_shapes;
+    std::vector<Fault> faults(shapes.size() == 0 ? 0 : shapes.size() - 1);
+    count_of(call(read(points), std::size(points), read_offsets(contours), contours.size(), read_offsets(shapes), shapes.size(),
+                  address<i_shape_fault>(faults.data()), faults.size()), points, contours, shapes);
+    return faults;
+}
+} // namespace detail
+
 /* The first fault of each of many polygons, which lie as in Shapes. It throws Code::bad_offsets where the offsets don't
  * divide the points or the contours, Code::unsafe where a point isn't safe, and Code::no_memory where there is none for
  * a copy of the offsets of one polygon. */
 template <class Points, class GivenContours, class GivenShapes>
 std::vector<Fault> validity(const Points &points, const GivenContours &given_contours, const GivenShapes &given_shapes) {
-    const auto all_contours = detail::as_offsets(given_contours);
-    const auto all_shapes = detail::as_offsets(given_shapes);
-    const detail::Offsets contours = all_contours, shapes = all_shapes;
-    std::vector<Fault> faults(shapes.size() == 0 ? 0 : shapes.size() - 1);
-    detail::count_of(detail::CallsOf<Points>::validity_shapes(detail::read(points), std::size(points), detail::read_offsets(contours), contours.size(),
-                                                              detail::read_offsets(shapes), shapes.size(), detail::address<i_shape_fault>(faults.data()),
-                                                              faults.size()), points, contours, shapes);
-    return faults;
+    return detail::faults_of(detail::CallsOf<Points>::validity_shapes, points, given_contours, given_shapes);
+}
+
+/* The same if two contours of a polygon may touch, by OGC's rules, except that repeated points are faults. It throws
+ * Code::no_memory also where there is none for the faults, or for the contacts of a polygon. */
+template <class Points, class GivenContours, class GivenShapes>
+std::vector<Fault> touching_validity(const Points &points, const GivenContours &given_contours, const GivenShapes &given_shapes) {
+    return detail::faults_of(detail::CallsOf<Points>::touching_validity_shapes, points, given_contours, given_shapes);
 }
 
 /* Twice the area of a contour, above 0 where it turns left; nothing where it has no point. A sum that doesn't fit wraps. */

@@ -209,6 +209,7 @@ public:
         test_contacts();
         test_kinds();
         test_validity();
+        test_touching_validity();
         test_holders();
         test_tests();
         test_windings();
@@ -556,6 +557,26 @@ private:
         check(i_shape::validity(all.points, std::array<std::uint32_t, 1>{7}, std::array<std::uint16_t, 1>{0}).empty(), "validity", "no polygon, by other offsets");
     }
 
+    /* A polygon of each kind: a hole that touches the outer contour, a bow tie, a hole that touches it from outside, one in a hole that it touches, and one that
+     * parts the inside; and an empty one. */
+    void test_touching_validity() const {
+        using i_shape::FaultKind;
+        const Contour outer = {point(0, 0), point(9, 0), point(9, 9), point(0, 9)}, bow_tie = {point(0, 0), point(4, 4), point(4, 0), point(0, 4)};
+        const Contour touching = {point(4, 9), point(2, 4), point(6, 4)}, line = {point(1, 1), point(2, 1)}, outside = {point(9, 4), point(10, 3), point(10, 5)};
+        const Contour hole = {point(2, 2), point(6, 2), point(2, 6)}, inner = {point(2, 2), point(4, 3), point(3, 4)};
+        const Contour parting = {point(4, 0), point(6, 4), point(4, 9), point(2, 4)};
+        const auto all = i_shape::flat(std::vector<std::vector<Contour>>{{outer, touching}, {}, {outer, line}, {bow_tie}, {outer, outside}, {outer, hole, inner}, {outer, parting}});
+        const auto faults = i_shape::touching_validity(all.points, all.contours, all.shapes);
+        const auto is_fault = [&](std::size_t polygon, FaultKind kind, std::size_t first, std::size_t second) {
+            return faults[polygon].kind == kind && faults[polygon].first == first && faults[polygon].second == second;
+        };
+        check(faults.size() == 7 && is_fault(0, FaultKind::valid, 0, 0) && is_fault(1, FaultKind::valid, 0, 0), "touching_validity", "valid polygons");
+        check(is_fault(2, FaultKind::too_few_points, 3, 0) && is_fault(3, FaultKind::contact, 13, 15), "touching_validity", "a line, and a bow tie");
+        check(is_fault(4, FaultKind::hole_outside, 6, 0) && is_fault(5, FaultKind::hole_within, 9, 8), "touching_validity", "holes outside and within");
+        check(is_fault(6, FaultKind::disconnected, 36, 39), "touching_validity", "a hole that parts the inside");
+        check(i_shape::touching_validity(all.points, std::array<std::uint32_t, 1>{7}, std::array<std::uint16_t, 1>{0}).empty(), "touching_validity", "no polygon, by other offsets");
+    }
+
     void test_codes() const {
         using i_shape::Code;
         Contour unsafe = square();
@@ -583,6 +604,11 @@ private:
         throws(Code::bad_offsets, "validity", "no offset of polygons", [&] { i_shape::validity(square(), whole, none); });
         has_no_memory = true;
         throws(Code::no_memory, "validity", "no memory", [&] { i_shape::validity(square(), whole, one); });
+        has_no_memory = false;
+        throws(Code::unsafe, "touching_validity", "a point that isn't safe", [&] { i_shape::touching_validity(unsafe, whole, one); });
+        throws(Code::bad_offsets, "touching_validity", "no offset of polygons", [&] { i_shape::touching_validity(square(), whole, none); });
+        has_no_memory = true;
+        throws(Code::no_memory, "touching_validity", "no memory", [&] { i_shape::touching_validity(square(), whole, one); });
         has_no_memory = false;
         throws(Code::unsafe, "locate_in_shapes", "a point that isn't safe", [&] { i_shape::locate_in_shapes(square(), whole, one, unsafe, i_shape::FillRule::nonzero); });
         throws(Code::unsafe, "locate_in_shapes", "a vertex that isn't safe", [&] { i_shape::locate_in_shapes(unsafe, whole, one, square(), i_shape::FillRule::nonzero); });

@@ -702,6 +702,32 @@ static void AT(test_kinds)(void) {
     check(is_filled(out, sizeof out), W, "kinds_of_contacts", "codes leave the array as it was");
 }
 
+typedef int32_t (*AT(find_faults))(const POINT *, size_t, const size_t *, size_t, const size_t *, size_t, i_shape_fault *, size_t);
+
+/* What both calls do that write faults, of polygons whose first point and last one aren't safe, and no contour has: it has 14 contours, of which no polygon has the first. */
+static void AT(test_faults)(AT(find_faults) call, const char *name, const POINT *given, size_t count, const size_t *contours, const size_t *shapes, size_t shape_count,
+                            const i_shape_fault *faults) {
+    const size_t back[3] = {1, 9, 5}, outside[2] = {1, count + 1}, shapes_back[3] = {1, 4, 3}, shapes_outside[2] = {1, 15}, low[2] = {0, 5}, high[2] = {46, count}, one[2] = {0, 1};
+    const size_t polygons = shape_count - 1;
+    i_shape_fault out[8];
+    fill(out, sizeof out);
+    check(call(given, count, contours, 15, shapes, shape_count, out, polygons) == 0 && memcmp(out, faults, polygons * sizeof *out) == 0 && is_filled(out + polygons, sizeof *out), W,
+          name, "a polygon of each kind");
+    fill(out, sizeof out);
+    check(call(given, count, contours, 15, shapes, 1, out, 0) == 0, W, name, "no polygon");
+    check(call(given, count, contours, 0, shapes, shape_count, out, 8) == I_SHAPE_BAD_OFFSETS, W, name, "no offset of contours");
+    check(call(given, count, contours, 15, shapes, 0, out, 8) == I_SHAPE_BAD_OFFSETS, W, name, "no offset of polygons");
+    check(call(given, count, back, 3, one, 2, out, 8) == I_SHAPE_BAD_OFFSETS, W, name, "contours that run backwards");
+    check(call(given, count, outside, 2, one, 2, out, 0) == I_SHAPE_BAD_OFFSETS, W, name, "a contour out of the points");
+    check(call(given, count, contours, 15, shapes_back, 3, out, 8) == I_SHAPE_BAD_OFFSETS, W, name, "polygons that run backwards");
+    check(call(given, count, contours, 15, shapes_outside, 2, out, 0) == I_SHAPE_BAD_OFFSETS, W, name, "a polygon out of the contours");
+    check(call(given, count, contours, 15, shapes, shape_count, out, polygons - 1) == I_SHAPE_NO_ROOM, W, name, "room for a fault less than there are");
+    check(call(given, count, low, 2, one, 2, out, 0) == I_SHAPE_NO_ROOM, W, name, "the room is tested before the points");
+    check(call(given, count, low, 2, one, 2, out, 8) == I_SHAPE_UNSAFE, W, name, "a first point that isn't safe");
+    check(call(given, count, high, 2, one, 1, out, 8) == I_SHAPE_UNSAFE, W, name, "a last point that isn't safe, of no polygon");
+    check(is_filled(out, sizeof out), W, name, "codes leave the array as it was");
+}
+
 /* Behind a point that no contour has, and a contour that no polygon has: a polygon of each kind, and one without contours. */
 static void AT(test_validity)(void) {
     const POINT given[50] = {{LEAST_UNSAFE, 0},
@@ -715,25 +741,33 @@ static void AT(test_validity)(void) {
     const size_t contours[15] = {1, 5, 9, 12, 15, 19, 22, 26, 29, 33, 36, 39, 43, 46, 49}, shapes[7] = {1, 4, 6, 8, 8, 11, 14};
     const i_shape_fault faults[6] = {{I_SHAPE_VALID, 0, 0}, {I_SHAPE_TOO_FEW_POINTS, 5, 0}, {I_SHAPE_CONTACT, 24, 26},
                                      {I_SHAPE_VALID, 0, 0}, {I_SHAPE_HOLE_OUTSIDE, 10, 0}, {I_SHAPE_HOLE_WITHIN, 13, 12}};
-    const size_t back[3] = {1, 9, 5}, outside[2] = {1, 51}, shapes_back[3] = {1, 4, 3}, shapes_outside[2] = {1, 15}, low[2] = {0, 5}, high[2] = {46, 50}, one[2] = {0, 1};
-    i_shape_fault out[7];
+    i_shape_fault out[3];
     fill(out, sizeof out);
-    check(CALL(validity_shapes)(given, 50, contours, 15, shapes, 7, out, 6) == 0 && memcmp(out, faults, sizeof faults) == 0 && is_filled(out + 6, sizeof *out), W,
-          "validity_shapes", "a polygon of each kind");
+    AT(test_faults)(CALL(validity_shapes), "validity_shapes", given, 50, contours, shapes, 7, faults);
+    WITH_EACH_GROWTH_FAILED(CALL(validity_shapes)(given, 50, contours, 15, shapes + 1, 4, out, 3), is_filled(out, sizeof out), growths == 1, W, "validity_shapes");
+}
+
+/* The same where contours may touch: all that faulty polygons lack but the two first is that contours only touch. */
+static void AT(test_touching_validity)(void) {
+    const POINT given[53] = {{LEAST_UNSAFE, 0},
+                             {0, 0}, {4, 4}, {4, 0}, {0, 4},                                                      /* a bow tie */
+                             {0, 0}, {8, 0}, {8, 8}, {0, 8}, {4, 8}, {2, 4}, {6, 4},                              /* a hole that touches the outer contour */
+                             {0, 0}, {4, 4}, {4, 0}, {0, 4}, {3, 3}, {3, 3}, {3, 3},                              /* a point for a hole in a bow tie */
+                             {0, 0}, {8, 0}, {8, 8}, {4, 0}, {0, 8},                                              /* a contour that touches itself */
+                             {0, 0}, {8, 0}, {8, 8}, {0, 8}, {1, 1}, {2, 1}, {2, 2}, {8, 4}, {10, 3}, {10, 5},    /* a hole inside, and one that touches from outside */
+                             {0, 0}, {20, 0}, {20, 20}, {0, 20}, {2, 2}, {16, 2}, {2, 16}, {2, 2}, {6, 4}, {4, 6}, /* a hole in a hole that it touches */
+                             {0, 0}, {8, 0}, {8, 8}, {0, 8}, {4, 0}, {6, 4}, {4, 8}, {2, 4},                      /* a hole that parts the inside */
+                             {0, LEAST_UNSAFE}};
+    const size_t contours[15] = {1, 5, 9, 12, 16, 19, 24, 28, 31, 34, 38, 41, 44, 48, 52}, shapes[8] = {1, 3, 5, 6, 6, 9, 12, 14};
+    const i_shape_fault faults[7] = {{I_SHAPE_VALID, 0, 0}, {I_SHAPE_TOO_FEW_POINTS, 4, 0}, {I_SHAPE_CONTACT, 19, 21}, {I_SHAPE_VALID, 0, 0},
+                                     {I_SHAPE_HOLE_OUTSIDE, 8, 0}, {I_SHAPE_HOLE_WITHIN, 11, 10}, {I_SHAPE_DISCONNECTED, 46, 49}};
+    i_shape_fault out[2];
     fill(out, sizeof out);
-    check(CALL(validity_shapes)(given, 50, contours, 15, shapes, 1, out, 0) == 0, W, "validity_shapes", "no polygon");
-    check(CALL(validity_shapes)(given, 50, contours, 0, shapes, 7, out, 7) == I_SHAPE_BAD_OFFSETS, W, "validity_shapes", "no offset of contours");
-    check(CALL(validity_shapes)(given, 50, contours, 15, shapes, 0, out, 7) == I_SHAPE_BAD_OFFSETS, W, "validity_shapes", "no offset of polygons");
-    check(CALL(validity_shapes)(given, 50, back, 3, one, 2, out, 7) == I_SHAPE_BAD_OFFSETS, W, "validity_shapes", "contours that run backwards");
-    check(CALL(validity_shapes)(given, 50, outside, 2, one, 2, out, 0) == I_SHAPE_BAD_OFFSETS, W, "validity_shapes", "a contour out of the points");
-    check(CALL(validity_shapes)(given, 50, contours, 15, shapes_back, 3, out, 7) == I_SHAPE_BAD_OFFSETS, W, "validity_shapes", "polygons that run backwards");
-    check(CALL(validity_shapes)(given, 50, contours, 15, shapes_outside, 2, out, 0) == I_SHAPE_BAD_OFFSETS, W, "validity_shapes", "a polygon out of the contours");
-    check(CALL(validity_shapes)(given, 50, contours, 15, shapes, 7, out, 5) == I_SHAPE_NO_ROOM, W, "validity_shapes", "room for five of six faults");
-    check(CALL(validity_shapes)(given, 50, low, 2, one, 2, out, 0) == I_SHAPE_NO_ROOM, W, "validity_shapes", "the room is tested before the points");
-    check(CALL(validity_shapes)(given, 50, low, 2, one, 2, out, 7) == I_SHAPE_UNSAFE, W, "validity_shapes", "a first point that isn't safe");
-    check(CALL(validity_shapes)(given, 50, high, 2, one, 1, out, 7) == I_SHAPE_UNSAFE, W, "validity_shapes", "a last point that isn't safe, of no polygon");
-    check(is_filled(out, sizeof out), W, "validity_shapes", "codes leave the array as it was");
-    WITH_EACH_GROWTH_FAILED(CALL(validity_shapes)(given, 50, contours, 15, shapes + 1, 4, out, 7), is_filled(out, sizeof out), growths == 1, W, "validity_shapes");
+    AT(test_faults)(CALL(touching_validity_shapes), "touching_validity_shapes", given, 53, contours, shapes, 8, faults);
+    /* A copy of the offsets, the faults, and a list of contacts; where all are allowed, what the touches take too. */
+    WITH_EACH_GROWTH_FAILED(CALL(touching_validity_shapes)(given, 53, contours, 15, shapes + 6, 2, out, 2), is_filled(out, sizeof out), growths > 3, W, "touching_validity_shapes");
+    WITH_EACH_GROWTH_FAILED(CALL(touching_validity_shapes)(given, 53, contours, 15, shapes + 2, 2, out + 1, 1), is_filled(out + 1, sizeof *out), growths == 3, W,
+                            "touching_validity_shapes");
 }
 
 /* Sixteen points and more: steps up and back down, of which the last edge, with `touches`, touches the second one. With each growth
@@ -777,6 +811,10 @@ static void AT(test_contacts_without_memory)(void) {
             check(CALL(validity_shapes)(steps, COUNT, whole, 2, one, 2, &fault, 1) == 0 && ARE_TAKEN(2), W, "validity_shapes", "steps");
             check(fault.kind == (touches ? I_SHAPE_CONTACT : I_SHAPE_VALID) && fault.first == (touches ? 1 : 0) && fault.second == (touches ? COUNT - 2 : 0), W,
                   "validity_shapes", "where steps touch");
+            WITH_GROWTH(3); /* the first two are the copy of the offsets and the faults */
+            check(CALL(touching_validity_shapes)(steps, COUNT, whole, 2, one, 2, &fault, 1) == 0 && (touches || ARE_TAKEN(3)), W, "touching_validity_shapes", "steps");
+            check(fault.kind == (touches ? I_SHAPE_CONTACT : I_SHAPE_VALID) && fault.first == (touches ? 1 : 0) && fault.second == (touches ? COUNT - 2 : 0), W,
+                  "touching_validity_shapes", "where steps touch");
             WITH_GROWTH(2); /* the second one is the boxes of rings */
             check(CALL(validity_shapes)(nested, 12, three, 4, all, 2, &fault, 1) == 0 && ARE_TAKEN(2) && fault.kind == I_SHAPE_HOLE_WITHIN && fault.first == 2
                   && fault.second == 1, W, "validity_shapes", "a hole in a hole");
@@ -976,6 +1014,7 @@ static void AT(test_width)(void) {
     AT(test_contacts_of_rings)();
     AT(test_kinds)();
     AT(test_validity)();
+    AT(test_touching_validity)();
     AT(test_contacts_without_memory)();
     AT(test_area)();
     AT(test_failed_growths)();

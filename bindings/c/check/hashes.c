@@ -182,6 +182,9 @@ static void tell_all(uint64_t seed, size_t rounds) {
     hash_features_i16(rounds);
     hash_features_i32(rounds);
     hash_features_i64(rounds);
+    hash_touching_i16(rounds);
+    hash_touching_i32(rounds);
+    hash_touching_i64(rounds);
 }
 
 int main(int argc, char **argv) {

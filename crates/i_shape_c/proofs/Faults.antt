@@ -1,15 +1,19 @@
 -- A polygon's own offsets, rebased to 0, and its first fault among those of many polygons.
-use Rattle.std.proofs.Common.{◌≡◌, ◌∙◌, All, ℕ, ◌+◌, ◌-◌, ◌<◌, ◌≤◌, List, [], ◌∷◌, ◌++◌, length, take, set, slice_range, refl, ap, ap₂, sym, subst₂, arith}
+use Rattle.std.proofs.Common.{◌≡◌, ◌∙◌, All, ℕ, ℤ, ◌+◌, ◌-◌, ◌<◌, ◌≤◌, List, [], ◌∷◌, ◌++◌, length, map, take, set, slice_range, refl, ap, ap₂, sym, subst₂, arith}
 use Rattle.std.proofs.lemmas.List.{get_or-map, length-map, take_all, take_more, take_more_set}
+use Rattle.std.specs.Int.{Width}
 use Rattle.i_shape.specs.Point.{Point}
+use Rattle.i_shape.specs.IntPoint.{contour_of, point_of}
+use Rattle.i_shape.specs.IntPoints.{IntPoint}
 use Rattle.i_shape_core.proofs.Lists.Rings.{rises_to}
 use Rattle.i_shape_contacts.specs.Courses.{DividesPoints}
-use Rattle.i_shape_contacts.specs.Validity.{IsFirstFault}
-use Rattle.i_shape_contacts.specs.declared.validity.Validity.{Validity}
 use Rattle.i_shape_c.specs.Batch.{offset, PartsPoints}
-use Rattle.i_shape_c.specs.Validity.{rebased, points_between, placed, IsFaultOf}
+use Rattle.i_shape_c.specs.Validity.{rebased, points_between, IsPlacedFault}
+use Rattle.i_shape_c.specs.declared.validity.Fault.{Fault}
 use Rattle.i_shape_c.proofs.Appended.{parted_part, offset_part, length_part}
 use Rattle.i_shape_c.proofs.Batches.{all_part}
+use Rattle.i_shape_c.proofs.Boundary.{copied_points}
+use Rattle.i_shape_c.proofs.RingsMoved.{map_part}
 
 -- each rebased offset is the offset less the first
 pub offset_rebased : (offsets : List ℕ) (k : ℕ) → k < length offsets → offset (rebased offsets) k ≡ offset offsets k - offset offsets 0
@@ -50,9 +54,17 @@ rebased_divides offsets points n parted count =
           ap (offset (rebased offsets)) last ∙ e ∙ (let d : offset offsets (length offsets - 1) - offset offsets 0 ≡ n = omega (arith, count) in d));
     }
 
--- the first fault of a polygon's own offsets and points is its fault among all, at shifted indices
-pub fault_placed : (points own_points : List Point) (offsets own : List ℕ) (contour : ℕ) (validity : Validity) → own ≡ rebased offsets → own_points ≡ points_between points offsets → IsFirstFault own own_points validity → IsFaultOf points offsets contour (placed contour (offset offsets 0) validity)
-fault_placed points own_points offsets own contour validity less part first = record { validity = validity; first = subst₂ (λ (l : List ℕ) (c : List Point). IsFirstFault l c validity) less part first; is = refl }
+module _ {P I : Type 0} (width : Width) (value : I → ℤ) (to : P → IntPoint I) where
+  -- the points that are read of those between the first offset and the last are the polygon's
+  pub points_read : (points given : List P) (copy : List (IntPoint I)) (offsets : List ℕ) → copy ≡ map to given → given ≡ slice_range points (offset offsets 0) (offset offsets (length offsets - 1)) → contour_of value copy ≡ points_between (map (λ p. point_of value (to p)) points) offsets
+  points_read points given copy offsets is part =
+      let at = λ (p : P). point_of value (to p) in
+      copied_points width value to given copy is ∙ ap (map at) part ∙ map_part at points (offset offsets 0) (offset offsets (length offsets - 1))
+
+-- a fault of a polygon's own offsets and points is its fault among all, at shifted indices
+pub fault_placed : {V : Type 0} (IsFirst : List ℕ → List Point → V → Type 0) (place : ℕ → ℕ → V → Fault) (points own_points : List Point) (offsets own : List ℕ) (contour : ℕ) (validity : V)
+    → own ≡ rebased offsets → own_points ≡ points_between points offsets → IsFirst own own_points validity → IsPlacedFault IsFirst place points offsets contour (place contour (offset offsets 0) validity)
+fault_placed IsFirst place points own_points offsets own contour validity less part first = record { validity = validity; first = subst₂ (λ (l : List ℕ) (c : List Point). IsFirst l c validity) less part first; is = refl }
 
 -- The offsets of the contours of polygon `place` - 1.
 module _ (contours shapes : List ℕ) (points place : ℕ) (contours_parted : PartsPoints points contours) (shapes_parted : PartsPoints (length contours - 1) shapes) (some : 0 < place) (less : place < length shapes) where

@@ -23,13 +23,17 @@ item_more R items out n item told within read room before here =
     subst₂ (λ xs ys. AllZip R xs ys) (sym (take_more items n item within ∙ ap (λ x. take n items ++ x ∷ []) (sym read))) (sym (take_more_set out n told room))
     (all_zipped_more R (take n items) (take n out) item told before here)
 
+-- if R relates the first n indices to the results so far, pushing result n extends this to n + 1
+pub index_pushed : {X : Type 0} (R : ℕ → X → Type 0) (results : List X) (n next : ℕ) (told : X) → n + 1 ≡ next → AllZip R (range_with_len 0 n) results → R n told → AllZip R (range_with_len 0 next) (results ++ told ∷ [])
+index_pushed R results n next told is before here =
+    let one_more : range_with_len 0 (n + 1) ≡ range_with_len 0 n ++ n ∷ [] = sym (map-id (range_with_len 0 (n + 1))) ∙ map-range_with_len_more (λ (j : ℕ). j) 0 n n (let same : 0 + n ≡ n = omega arith in same) ∙ ap (λ (l : List ℕ). l ++ n ∷ []) (map-id (range_with_len 0 n)) in
+    subst (λ ns. AllZip R ns (results ++ told ∷ [])) (sym one_more ∙ ap (range_with_len 0) is) (all_zipped_more R (range_with_len 0 n) results n told before here)
+
 -- if R relates the first n indices to the first n results, writing result n extends this to n + 1
 pub index_more : {X : Type 0} (R : ℕ → X → Type 0) (out : List X) (n next : ℕ) (told : X) → n + 1 ≡ next → n < length out
     → AllZip R (range_with_len 0 n) (take n out) → R n told → AllZip R (range_with_len 0 next) (take next (set out n told))
 index_more R out n next told is room before here =
-    let one_more : range_with_len 0 (n + 1) ≡ range_with_len 0 n ++ n ∷ [] = sym (map-id (range_with_len 0 (n + 1))) ∙ map-range_with_len_more (λ (j : ℕ). j) 0 n n (let same : 0 + n ≡ n = omega arith in same) ∙ ap (λ (l : List ℕ). l ++ n ∷ []) (map-id (range_with_len 0 n)) in
-    subst (λ m. AllZip R (range_with_len 0 m) (take m (set out n told))) is
-    (subst₂ (λ ns tolds. AllZip R ns tolds) (sym one_more) (sym (take_more_set out n told room)) (all_zipped_more R (range_with_len 0 n) (take n out) n told before here))
+    subst (AllZip R (range_with_len 0 next)) (sym (take_more_set out n told room) ∙ ap (λ m. take m (set out n told)) is) (index_pushed R (take n out) n next told is before here)
 
 -- `Some x` isn't `None`
 pub not_none : {X : Type 0} (o : Option X) (x : X) → o ≡ Some x → o ≡ None → ⊥

@@ -1,11 +1,11 @@
 //! The first fault of each of many polygons if their contours may touch at single points, at any width.
 
-ghost use Rattle.std.specs.Prelude.{◌≡◌, ◌+◌, ◌-◌, ◌^◌, ◌≤◌, length, map, IfOk, OnOk, OnErr};
+ghost use Rattle.std.specs.Prelude.{◌≡◌, ◌+◌, ◌-◌, ◌^◌, ◌≤◌, length, map, take, drop, IfOk, OnOk, OnErr};
 ghost use Rattle.std.specs.List.{AllZip, range_with_len};
 ghost use Rattle.i_shape_c.specs.Batch.{PartsPoints, AreSafeContours};
 ghost use Rattle.i_shape_c.specs.Points.{point_by};
 ghost use Rattle.i_shape_c.specs.Polygons.{polygon_arrays, PartsPolygons};
-ghost use Rattle.i_shape_c.specs.Validity.{fault, IsTouchingFaultOf, IsFaultAt, AreFaults, FindsFaults};
+ghost use Rattle.i_shape_c.specs.Validity.{HasOffsetsRoom, fault, IsTouchingFaultOf, IsFaultAt, AreFaults, FindsFaults};
 
 use crate::batch::part;
 use crate::codes::Refusal;
@@ -67,12 +67,22 @@ fn write_touching_faults<P: CPoint>(
     if shapes.len() == 1 {
         return Ok(());
     }
-    let faults = touching_faults(alloc, points, contours, shapes)?;
-    out[..faults.len()].copy_from_slice(&faults);
+    let mut own = vec![in alloc; 0usize; most_offsets(shapes)]?;
+    let faults = touching_faults(alloc, points, contours, shapes, &mut own)?;
+    write_front(&faults, out);
     Ok(())
 }
 
-/// Returns the first fault of each polygon.
+/// Writes the faults to the front of `out`.
+fn write_front(faults: &[Fault], out: &mut [Fault])
+    requires { length faults.now ≤ length out.old }
+    ensures written { take (length faults.now) out.new ≡ faults.now }
+    ensures rest { drop (length faults.now) out.new ≡ drop (length faults.now) out.old }
+{
+    out[..faults.len()].copy_from_slice(faults);
+}
+
+/// Returns the first fault of each polygon. `own` has room for the offsets of each.
 ///
 /// # Errors
 ///
@@ -82,8 +92,10 @@ fn touching_faults<P: CPoint>(
     points: &[P],
     contours: &[usize],
     shapes: &[usize],
+    own: &mut [usize],
 ) -> Result<Vec<Fault>, AllocError>
     requires parted { PartsPolygons (length points.now) contours.now shapes.now }
+    requires own_room { HasOffsetsRoom shapes.now (length own.old) }
     requires points_safe { AreSafeContours P.Coordinate.width
         (point_by P.Coordinate.value P.point) points.now contours.now }
     ensures { IfOk result (λ faults. AllZip (IsFaultAt IsTouchingFaultOf
@@ -91,12 +103,11 @@ fn touching_faults<P: CPoint>(
         (polygon_arrays points.now contours.now shapes.now))
         (range_with_len 0 (length shapes.now - 1)) faults.items) }
 {
-    let mut own = vec![in alloc; 0usize; most_offsets(shapes)]?;
     let mut faults = Vec::with_capacity(alloc, shapes.len() - 1)?;
     for place in 1..shapes.len() {
         let contour = shapes[place - 1];
         let offsets = part(contours, contour, shapes[place] + 1);
-        faults.push(touching_fault_of(alloc, points, offsets, contour, &mut own)?)?;
+        faults.push(touching_fault_of(alloc, points, offsets, contour, own)?)?;
     }
     Ok(faults)
 }

@@ -3,10 +3,11 @@ use Rattle.i_shape.specs.IntPoint.{contour_of, point_of}
 use Rattle.i_shape_core.proofs.Plane.PointLists.{read-length}
 use Rattle.i_shape_core.proofs.Lists.Rings.{rises_to}
 use Rattle.i_shape_contacts.specs.Courses.{DividesPoints}
+use Rattle.i_shape_contacts.specs.Validity.{IsFirstFault}
 use Rattle.i_shape_contacts.specs.declared.validity.Validity.TheVariants.{Valid, TooFewPoints, Contact, HoleOutside, HoleWithin}
 use Rattle.i_shape_c.specs.Batch.{offset}
 use Rattle.i_shape_c.specs.Cleaned.{AreSafe}
-use Rattle.i_shape_c.specs.Validity.{points_between}
+use Rattle.i_shape_c.specs.Validity.{points_between, placed}
 use Rattle.i_shape_c.proofs.Boundary.{copied_points, safe_contour}
 use Rattle.i_shape_c.proofs.RingsMoved.{map_part}
 use Rattle.i_shape_c.proofs.Faults.{rebased_divides, fault_placed}
@@ -57,7 +58,7 @@ returns-in-Valid-clause-is g c =
     let given = c.part-given.result.now in
     let own_points = contour_of value (g.P.ContourPoint.points given) in
     let part : own_points ≡ points_between (map at points) offsets = copied_points g.P.Coordinate.IntNumber.width value g.P.ContourPoint.point given (g.P.ContourPoint.points given) (g.P.ContourPoint.each given) ∙ ap (map at) c.part-given.ensures.part ∙ map_part at points (offset offsets 0) (offset offsets (length offsets - 1)) in
-    fault_placed (map at points) own_points offsets _ c.args.contour Valid c.rebase.ensures.written part c.in-Valid.ensures.fault
+    fault_placed IsFirstFault placed (map at points) own_points offsets _ c.args.contour Valid c.rebase.ensures.written part c.in-Valid.ensures.fault
 
 pub returns-in-TooFewPoints-clause-is : goal.returns-in-TooFewPoints-clause-is
 returns-in-TooFewPoints-clause-is g c =
@@ -68,7 +69,7 @@ returns-in-TooFewPoints-clause-is g c =
     let given = c.part-given.result.now in
     let own_points = contour_of value (g.P.ContourPoint.points given) in
     let part : own_points ≡ points_between (map at points) offsets = copied_points g.P.Coordinate.IntNumber.width value g.P.ContourPoint.point given (g.P.ContourPoint.points given) (g.P.ContourPoint.each given) ∙ ap (map at) c.part-given.ensures.part ∙ map_part at points (offset offsets 0) (offset offsets (length offsets - 1)) in
-    fault_placed (map at points) own_points offsets _ c.args.contour (TooFewPoints c.in-TooFewPoints.ring) c.rebase.ensures.written part c.in-TooFewPoints.ensures.fault
+    fault_placed IsFirstFault placed (map at points) own_points offsets _ c.args.contour (TooFewPoints c.in-TooFewPoints.ring) c.rebase.ensures.written part c.in-TooFewPoints.ensures.fault
 
 pub returns-in-Contact-clause-is : goal.returns-in-Contact-clause-is
 returns-in-Contact-clause-is g c =
@@ -79,7 +80,7 @@ returns-in-Contact-clause-is g c =
     let given = c.part-given.result.now in
     let own_points = contour_of value (g.P.ContourPoint.points given) in
     let part : own_points ≡ points_between (map at points) offsets = copied_points g.P.Coordinate.IntNumber.width value g.P.ContourPoint.point given (g.P.ContourPoint.points given) (g.P.ContourPoint.each given) ∙ ap (map at) c.part-given.ensures.part ∙ map_part at points (offset offsets 0) (offset offsets (length offsets - 1)) in
-    fault_placed (map at points) own_points offsets _ c.args.contour (Contact c.in-Contact.it) c.rebase.ensures.written part c.in-Contact.ensures.fault
+    fault_placed IsFirstFault placed (map at points) own_points offsets _ c.args.contour (Contact c.in-Contact.it) c.rebase.ensures.written part c.in-Contact.ensures.fault
 
 pub returns-in-HoleOutside-clause-is : goal.returns-in-HoleOutside-clause-is
 returns-in-HoleOutside-clause-is g c =
@@ -90,7 +91,7 @@ returns-in-HoleOutside-clause-is g c =
     let given = c.part-given.result.now in
     let own_points = contour_of value (g.P.ContourPoint.points given) in
     let part : own_points ≡ points_between (map at points) offsets = copied_points g.P.Coordinate.IntNumber.width value g.P.ContourPoint.point given (g.P.ContourPoint.points given) (g.P.ContourPoint.each given) ∙ ap (map at) c.part-given.ensures.part ∙ map_part at points (offset offsets 0) (offset offsets (length offsets - 1)) in
-    fault_placed (map at points) own_points offsets _ c.args.contour (HoleOutside c.in-HoleOutside.hole) c.rebase.ensures.written part c.in-HoleOutside.ensures.fault
+    fault_placed IsFirstFault placed (map at points) own_points offsets _ c.args.contour (HoleOutside c.in-HoleOutside.hole) c.rebase.ensures.written part c.in-HoleOutside.ensures.fault
 
 pub returns-in-HoleWithin-clause-is : goal.returns-in-HoleWithin-clause-is
 returns-in-HoleWithin-clause-is g c =
@@ -101,4 +102,4 @@ returns-in-HoleWithin-clause-is g c =
     let given = c.part-given.result.now in
     let own_points = contour_of value (g.P.ContourPoint.points given) in
     let part : own_points ≡ points_between (map at points) offsets = copied_points g.P.Coordinate.IntNumber.width value g.P.ContourPoint.point given (g.P.ContourPoint.points given) (g.P.ContourPoint.each given) ∙ ap (map at) c.part-given.ensures.part ∙ map_part at points (offset offsets 0) (offset offsets (length offsets - 1)) in
-    fault_placed (map at points) own_points offsets _ c.args.contour (HoleWithin c.in-HoleWithin.hole c.in-HoleWithin.other) c.rebase.ensures.written part c.in-HoleWithin.ensures.fault
+    fault_placed IsFirstFault placed (map at points) own_points offsets _ c.args.contour (HoleWithin c.in-HoleWithin.hole c.in-HoleWithin.other) c.rebase.ensures.written part c.in-HoleWithin.ensures.fault

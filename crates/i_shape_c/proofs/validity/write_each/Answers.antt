@@ -52,7 +52,7 @@ loop-place-preserved g c =
     let next : k + 1 ≡ place = omega (arith, c.loop-place.auto.place) in
     let count : place ≡ place + 1 - 1 = omega arith in
     let room : k < length c.loop-place.out = omega (arith, next, c.requires.room, c.loop-place.auto.out, c.loop-place-test.true) in
-    let Is = IsFaultAt at (polygon_arrays c.args.points.now contours shapes) in
+    let Is = IsFaultAt IsFaultOf at (polygon_arrays c.args.points.now contours shapes) in
     let own : c.part-offsets.result.now ≡ slice_range contours (offset shapes k) (offset shapes (k + 1) + 1) =
     c.part-offsets.ensures.part ∙ ap (λ (j : ℕ). slice_range contours (offset shapes k) (offset shapes j + 1)) (sym next) in
     let here : Is k c.fault_of.result = subst (λ (l : List ℕ). IsFaultOf (map at c.args.points.now) l (offset shapes k) c.fault_of.result) own c.fault_of.ensures.is in
