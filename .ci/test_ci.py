@@ -68,7 +68,7 @@ class ProofTest(Case):
         self.assertEqual(self.printed(f"{below}{self.LAST}\n").stdout, kept)
         lines = kept.splitlines()
         self.assertEqual([lines[0], *(line.split()[1] for line in lines if line.startswith("sources "))],
-                         ["crate i_shape_c", "i_shape_c", "i_shape", "i_shape_contacts", "i_shape_core", "i_shape_source"])
+                         ["crate i_shape_c", "i_shape_c", "i_shape", "i_shape_contacts", "i_shape_core", "i_shape_touching", "i_shape_source"])
         self.assertEqual(lines[-6:], ["fn i_shape_c::a+run: proved", "fn i_shape_c::a: proved", "fn i_shape_c::b: proved", "fn i_shape_c::fn::a::find: proved",
                                       "axioms libc: malloc", "logic=proved functions=2 sum=1 statements=trusted incremental=trusted"])
 
@@ -98,7 +98,7 @@ echo i_shape_core: ok
         version = self.run_in(TOP, "scripts/version.sh").stdout.strip()
         folder = f"i_shape-{version}-proof"
         self.run_in(self.room, "tar", "-xzf", f"dist/{folder}.tar.gz")
-        crates = "i_shape", "i_shape_c", "i_shape_c_calls", "i_shape_contacts", "i_shape_core", "i_shape_laws", "i_shape_source", "i_shape_tool", "i_shape_tool_main"
+        crates = "i_shape", "i_shape_c", "i_shape_c_calls", "i_shape_contacts", "i_shape_core", "i_shape_laws", "i_shape_source", "i_shape_tool", "i_shape_tool_main", "i_shape_touching"
         self.assertEqual(sorted(os.listdir(f"{self.room}/{folder}")), sorted((*crates, "README.md")))
         page = pages.read(f"{self.room}/{folder}/README.md")
         self.assertEqual(sorted({*re.findall("`(i_shape_[a-z]+)`", page)} - {*crates}), [])

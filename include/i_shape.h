@@ -230,7 +230,8 @@ int32_t i_shape_locate_in_shapes_i32(const i_shape_point_i32 *points, size_t cou
 /* Contacts. An edge leads from each point to the next one, the last edge of a contour to its first point. Two edges are
  * in contact if they share a point other than one at which one of them follows the other: they cross, touch or overlap.
  * The calls that search for contacts take memory if there are 16 or more points, those for validity also for a polygon
- * with two holes or more. If one of these allocations fails, they return the same, and take longer. */
+ * with two holes or more. If one of these allocations fails, they return the same, and take longer, except where a call
+ * says more. */
 
 /* At least three points, not all equal, and no contact: the contour is the boundary of a simple polygon. It returns 1 or
  * 0, or I_SHAPE_UNSAFE. */
@@ -307,8 +308,8 @@ int32_t i_shape_validity_shapes_i32(const i_shape_point_i32 *points, size_t coun
  *   Their contours are also joined by touches at points that are less, by x and then by y. Of such edges they are those
  *   that touch at the least point, and there the first.
  *
- * The codes are those above, but for I_SHAPE_NO_MEMORY: there is a polygon, and an allocation failed, of a fault for each
- * polygon, of that copy of the offsets, or where edges of a polygon are in contact. */
+ * The codes are those above, and leave out as it was. I_SHAPE_NO_MEMORY: there is a polygon, and an allocation failed, of
+ * that copy of the offsets, of a fault for each polygon, or where edges of one are in contact. */
 int32_t i_shape_touching_validity_shapes_i32(const i_shape_point_i32 *points, size_t count, const size_t *contours, size_t contour_offset_count, const size_t *shapes, size_t shape_offset_count, i_shape_fault *out, size_t room);
 
 /* Twice the signed area, positive for a counterclockwise contour; false, and *area as it was, if there is no point. No

@@ -190,16 +190,17 @@ static void AT(hash_kinds)(size_t rounds) {
     HASH_MADE(make_pairs, kinds_of_contacts, (POINTS, bytes, room(count / 4)));
 }
 
-/* The same points, and in three of four runs a square and diamonds in it, of which many touch it and each other. */
+/* The same points, and in three of four runs a square and diamonds, of which many touch it and each other, in some of these runs also a hole that is a square. */
 static void AT(make_diamonds)(void) {
     AT(make)();
     if (one_in(4)) return;
     const size_t rings = below(MOST_OFFSETS - 2) + 1;
     for (size_t k = 0; k < rings; k++) {
         const COORDINATE x = (COORDINATE)(4 * below(5)), y = (COORDINATE)(4 * below(4)), middle_x = (COORDINATE)(x + 2), middle_y = (COORDINATE)(y + 2);
-        const POINT square[4] = {{0, 0}, {16, 0}, {16, 16}, {0, 16}};
+        const COORDINATE low = k == 0 ? 0 : 4, high = (COORDINATE)(16 - low);
+        const POINT square[4] = {{low, low}, {high, low}, {high, high}, {low, high}};
         const POINT diamond[4] = {{middle_x, y}, {(COORDINATE)(x + 4), middle_y}, {middle_x, (COORDINATE)(y + 4)}, {x, middle_y}};
-        memcpy(AT(points) + 4 * k, k == 0 ? square : diamond, sizeof square);
+        memcpy(AT(points) + 4 * k, k == 0 || (k == 1 && one_in(3)) ? square : diamond, sizeof square);
         offsets[k] = 4 * k;
     }
     offsets[rings] = count = 4 * rings;
