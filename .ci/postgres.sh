@@ -61,12 +61,13 @@ test_sqlite() {
     make -s -f bindings/sqlite/Makefile "I_SHAPE_C_DIR=$library" "OUT=$work/sqlite" > "$work/log" 2>&1 || cat "$work/log"
     MOD_I_SHAPE=$work/sqlite/mod_i_shape.so I_SHAPE_C_DIR=$library PYTHONPATH=bindings/python/src "$python" bindings/sqlite/tests/rows.py 5000 > "$work/rows"
     ask -c 'CREATE TABLE of_sqlite (wkb bytea, step float8, point bytea, simplified bytea, despiked bytea, canonical bytea, oriented bytea, key bytea, oriented_key bytea,
-        digest bytea, is_clean bool, has_no_spikes bool, is_valid bool, reason text, contacts bytea, area_two numeric, winding int8)' -c "\\copy of_sqlite FROM '$work/rows'"
+        digest bytea, is_clean bool, has_no_spikes bool, is_valid bool, reason text, may_touch bool, touching_reason text, contacts bytea, area_two numeric, winding int8)' -c "\\copy of_sqlite FROM '$work/rows'"
     prints 'the bytes of SQLite' '5000|5000|5000' ask -c "SELECT count(*),
-        count(*) FILTER (WHERE (simplified, despiked, canonical, oriented, is_clean, has_no_spikes, is_valid, reason, contacts, area_two, winding) IS NOT DISTINCT FROM
+        count(*) FILTER (WHERE (simplified, despiked, canonical, oriented, is_clean, has_no_spikes, is_valid, reason, may_touch, touching_reason, contacts, area_two, winding) IS NOT DISTINCT FROM
             (i_shape_wkb_simplify(wkb, step), i_shape_wkb_despike(wkb, step), i_shape_wkb_canonical(wkb, step), i_shape_wkb_canonical(wkb, step, true),
              i_shape_wkb_is_clean(wkb, step), i_shape_wkb_has_no_spikes(wkb, step), i_shape_wkb_is_valid(wkb, step),
-             i_shape_wkb_validity_reason(wkb, step), i_shape_wkb_contact_points(wkb, step), i_shape_wkb_area_two(wkb, step),
+             i_shape_wkb_validity_reason(wkb, step), i_shape_wkb_is_valid(wkb, step, true),
+             i_shape_wkb_validity_reason(wkb, step, true), i_shape_wkb_contact_points(wkb, step), i_shape_wkb_area_two(wkb, step),
              i_shape_wkb_winding(wkb, point, step))),
         count(*) FILTER (WHERE (key, oriented_key, digest) IS NOT DISTINCT FROM
             (i_shape_wkb_key(wkb, step), i_shape_wkb_key(wkb, step, true), i_shape_wkb_digest(wkb, step))) FROM of_sqlite"

@@ -202,18 +202,22 @@ CALL(pg_i_shape_has_no_spikes) {
     return test_wkb(fcinfo, has_no_spikes);
 }
 
-static Invalidity invalidity_of(const Geometry *geometry) {
+static Invalidity invalidity_of(const Geometry *geometry, Rule rule) {
     Invalidity found;
     size_t *offsets = MemoryContextAllocHuge(CurrentMemoryContext, (geometry->counts.rings + 1) * sizeof(size_t));
-    if (!find_invalidity(geometry, let_interrupt, offsets, &found)) raise_no_memory();
+    if (!find_invalidity(geometry, rule, let_interrupt, offsets, &found)) raise_no_memory();
     pfree(offsets);
     return found;
+}
+
+static Rule rule_of(bool may_touch) {
+    return may_touch ? RINGS_MAY_TOUCH : RINGS_APART;
 }
 
 CALL(pg_i_shape_is_valid) {
     bytea *wkb = PG_GETARG_BYTEA_PP(0);
     Geometry given = geometry_of(wkb, grid_of(PG_GETARG_FLOAT8(1)));
-    Invalidity found = invalidity_of(&given);
+    Invalidity found = invalidity_of(&given, rule_of(PG_GETARG_BOOL(2)));
     free_block(&given);
     PG_FREE_IF_COPY(wkb, 0);
     PG_RETURN_BOOL(found.kind == I_SHAPE_VALID);
@@ -224,7 +228,7 @@ CALL(pg_i_shape_validity_reason) {
     bytea *wkb = PG_GETARG_BYTEA_PP(0);
     Grid grid = grid_of(PG_GETARG_FLOAT8(1));
     Geometry given = geometry_of(wkb, grid);
-    Invalidity found = invalidity_of(&given);
+    Invalidity found = invalidity_of(&given, rule_of(PG_GETARG_BOOL(2)));
     char text[REASON_SIZE];
     if (found.kind != I_SHAPE_VALID) put_reason(&found, grid, text);
     free_block(&given);

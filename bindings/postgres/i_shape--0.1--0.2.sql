@@ -5,16 +5,16 @@ AS 'MODULE_PATHNAME', 'pg_i_shape_has_no_spikes' LANGUAGE c IMMUTABLE STRICT PAR
 CREATE FUNCTION i_shape_has_no_spikes(geom geometry, step float8) RETURNS bool
 LANGUAGE sql IMMUTABLE STRICT PARALLEL SAFE COST 500
 RETURN i_shape_wkb_has_no_spikes(ST_AsEWKB(geom), step);
-CREATE FUNCTION i_shape_wkb_is_valid(wkb bytea, step float8) RETURNS bool
+CREATE FUNCTION i_shape_wkb_is_valid(wkb bytea, step float8, touching bool DEFAULT false) RETURNS bool
 AS 'MODULE_PATHNAME', 'pg_i_shape_is_valid' LANGUAGE c IMMUTABLE STRICT PARALLEL SAFE COST 50;
-CREATE FUNCTION i_shape_is_valid(geom geometry, step float8) RETURNS bool
+CREATE FUNCTION i_shape_is_valid(geom geometry, step float8, touching bool DEFAULT false) RETURNS bool
 LANGUAGE sql IMMUTABLE STRICT PARALLEL SAFE COST 500
-RETURN i_shape_wkb_is_valid(ST_AsEWKB(geom), step);
-CREATE FUNCTION i_shape_wkb_validity_reason(wkb bytea, step float8) RETURNS text
+RETURN i_shape_wkb_is_valid(ST_AsEWKB(geom), step, touching);
+CREATE FUNCTION i_shape_wkb_validity_reason(wkb bytea, step float8, touching bool DEFAULT false) RETURNS text
 AS 'MODULE_PATHNAME', 'pg_i_shape_validity_reason' LANGUAGE c IMMUTABLE STRICT PARALLEL SAFE COST 50;
-CREATE FUNCTION i_shape_validity_reason(geom geometry, step float8) RETURNS text
+CREATE FUNCTION i_shape_validity_reason(geom geometry, step float8, touching bool DEFAULT false) RETURNS text
 LANGUAGE sql IMMUTABLE STRICT PARALLEL SAFE COST 500
-RETURN i_shape_wkb_validity_reason(ST_AsEWKB(geom), step);
+RETURN i_shape_wkb_validity_reason(ST_AsEWKB(geom), step, touching);
 CREATE FUNCTION i_shape_wkb_contact_points(wkb bytea, step float8) RETURNS bytea
 AS 'MODULE_PATHNAME', 'pg_i_shape_contact_points' LANGUAGE c IMMUTABLE STRICT PARALLEL SAFE COST 50;
 CREATE FUNCTION i_shape_contact_points(geom geometry, step float8) RETURNS geometry
@@ -29,8 +29,8 @@ COMMENT ON FUNCTION i_shape_key(geometry, float8, bool) IS 'bytes that are equal
 COMMENT ON FUNCTION i_shape_digest(geometry, float8, bool) IS 'the SHA-256 of the key, for indexes and joins';
 COMMENT ON FUNCTION i_shape_is_clean(geometry, float8) IS 'whether i_shape_simplify would change nothing';
 COMMENT ON FUNCTION i_shape_has_no_spikes(geometry, float8) IS 'whether it lies on the grid, and no ring has a spike or collapses';
-COMMENT ON FUNCTION i_shape_is_valid(geometry, float8) IS 'whether each polygon, rounded, is valid; rings may not touch';
-COMMENT ON FUNCTION i_shape_validity_reason(geometry, float8) IS 'the first fault, with indices from 1; NULL if it is valid';
+COMMENT ON FUNCTION i_shape_is_valid(geometry, float8, bool) IS 'whether each polygon, rounded, is valid; rings may touch at single points only if touching';
+COMMENT ON FUNCTION i_shape_validity_reason(geometry, float8, bool) IS 'the first fault, with indices from 1; NULL if it is valid';
 COMMENT ON FUNCTION i_shape_contact_points(geometry, float8) IS 'a MultiPoint of the places at which edges of one polygon meet';
 COMMENT ON FUNCTION i_shape_area_two(geometry, float8) IS 'twice the area in cells of the grid, exact, less that of holes';
 COMMENT ON FUNCTION i_shape_winding(geometry, geometry, float8) IS 'how often all rings wind about the point';
@@ -41,8 +41,8 @@ COMMENT ON FUNCTION i_shape_wkb_key(bytea, float8, bool) IS 'i_shape_key of WKB'
 COMMENT ON FUNCTION i_shape_wkb_digest(bytea, float8, bool) IS 'i_shape_digest of WKB';
 COMMENT ON FUNCTION i_shape_wkb_is_clean(bytea, float8) IS 'i_shape_is_clean of WKB';
 COMMENT ON FUNCTION i_shape_wkb_has_no_spikes(bytea, float8) IS 'i_shape_has_no_spikes of WKB';
-COMMENT ON FUNCTION i_shape_wkb_is_valid(bytea, float8) IS 'i_shape_is_valid of WKB';
-COMMENT ON FUNCTION i_shape_wkb_validity_reason(bytea, float8) IS 'i_shape_validity_reason of WKB';
+COMMENT ON FUNCTION i_shape_wkb_is_valid(bytea, float8, bool) IS 'i_shape_is_valid of WKB';
+COMMENT ON FUNCTION i_shape_wkb_validity_reason(bytea, float8, bool) IS 'i_shape_validity_reason of WKB';
 COMMENT ON FUNCTION i_shape_wkb_contact_points(bytea, float8) IS 'i_shape_contact_points of WKB';
 COMMENT ON FUNCTION i_shape_wkb_area_two(bytea, float8) IS 'i_shape_area_two of WKB';
 COMMENT ON FUNCTION i_shape_wkb_winding(bytea, bytea, float8) IS 'i_shape_winding of WKB';

@@ -89,10 +89,12 @@ static Grid grid_of(Call *call, sqlite3_value *value) {
     end_with_error(call, "i_shape: step is %s, not a finite number above 0", text);
 }
 
-static bool is_oriented(Call *call, sqlite3_value *value) {
-    if (sqlite3_value_type(value) != SQLITE_INTEGER) end_with_error(call, "i_shape: oriented is %s, not 0 or 1", kind_of(value));
-    sqlite3_int64 number = sqlite3_value_int64(value);
-    if (number != 0 && number != 1) end_with_error(call, "i_shape: oriented is %lld, not 0 or 1", number);
+/* A third argument, which may be left out. */
+static bool is_set(Call *call, const char *name, int count, sqlite3_value **values) {
+    if (count < 3) return false;
+    if (sqlite3_value_type(values[2]) != SQLITE_INTEGER) end_with_error(call, "i_shape: %s is %s, not 0 or 1", name, kind_of(values[2]));
+    sqlite3_int64 number = sqlite3_value_int64(values[2]);
+    if (number != 0 && number != 1) end_with_error(call, "i_shape: %s is %lld, not 0 or 1", name, number);
     return number == 1;
 }
 
@@ -184,7 +186,7 @@ static void despike(Call *call, int count, sqlite3_value **values) {
 }
 
 static Geometry form_of(Call *call, int count, sqlite3_value **values, Given *given) {
-    bool oriented = count > 2 && is_oriented(call, values[2]);
+    bool oriented = is_set(call, "oriented", count, values);
     *given = given_by(call, values[0], values[1]);
     return canonical(call, given, oriented);
 }
@@ -235,25 +237,25 @@ static void test_no_spikes(Call *call, int count, sqlite3_value **values) {
     test_geometry(call, values, has_no_spikes);
 }
 
-static Invalidity invalidity_of(Call *call, const Given *given) {
+static Invalidity invalidity_of(Call *call, int count, sqlite3_value **values, Given *given) {
+    Rule rule = is_set(call, "touching", count, values) ? RINGS_MAY_TOUCH : RINGS_APART;
+    *given = given_by(call, values[0], values[1]);
     size_t *offsets = take(call, (given->geometry.counts.rings + 1) * sizeof *offsets);
     Invalidity found;
-    if (!find_invalidity(&given->geometry, pause_of(call), offsets, &found)) end_call(call, SQLITE_NOMEM);
+    if (!find_invalidity(&given->geometry, rule, pause_of(call), offsets, &found)) end_call(call, SQLITE_NOMEM);
     return found;
 }
 
 static void test_valid(Call *call, int count, sqlite3_value **values) {
-    (void)count;
-    Given given = given_by(call, values[0], values[1]);
-    sqlite3_result_int(call->context, invalidity_of(call, &given).kind == I_SHAPE_VALID);
+    Given given;
+    sqlite3_result_int(call->context, invalidity_of(call, count, values, &given).kind == I_SHAPE_VALID);
 }
 
 /* NULL where the geometry is valid. */
 static void tell_reason(Call *call, int count, sqlite3_value **values) {
-    (void)count;
     char text[REASON_SIZE];
-    Given given = given_by(call, values[0], values[1]);
-    Invalidity found = invalidity_of(call, &given);
+    Given given;
+    Invalidity found = invalidity_of(call, count, values, &given);
     if (found.kind == I_SHAPE_VALID) return;
     put_reason(&found, given.grid, text);
     sqlite3_result_text(call->context, text, -1, SQLITE_TRANSIENT);
@@ -328,7 +330,7 @@ static const Function functions[] = {
     {"i_shape_simplify", 2, 2, simplify},     {"i_shape_despike", 2, 2, despike},        {"i_shape_canonical", 2, 3, make_canonical},
     {"i_shape_key", 2, 3, make_key},          {"i_shape_digest", 2, 3, make_digest},     {"i_shape_is_clean", 2, 2, test_clean},
     {"i_shape_area_two", 2, 2, measure_area}, {"i_shape_winding", 3, 3, count_windings}, {"i_shape_has_no_spikes", 2, 2, test_no_spikes},
-    {"i_shape_is_valid", 2, 2, test_valid},   {"i_shape_validity_reason", 2, 2, tell_reason}, {"i_shape_contact_points", 2, 2, find_points},
+    {"i_shape_is_valid", 2, 3, test_valid},   {"i_shape_validity_reason", 2, 3, tell_reason}, {"i_shape_contact_points", 2, 2, find_points},
 };
 
 /* By itself, so that no variable of a function that calls setjmp changes. */

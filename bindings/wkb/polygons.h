@@ -138,15 +138,18 @@ typedef struct {
     const i_shape_point_i64 *point;
 } Place;
 
+/* Whether the rings of a polygon may touch at single points. */
+typedef enum { RINGS_APART, RINGS_MAY_TOUCH } Rule;
+
 /* Why a geometry isn't valid on its grid: the first fault of the first polygon that has one, at its place from 1 on. The kind is I_SHAPE_VALID or another one
- * of i_shape.h. Of a contact, the places are where the two edges begin; else they are the first points of the ring, and of the hole around it. */
+ * of i_shape.h. Of two edges, the places are where they begin; else they are the first points of the ring, and of the hole around it. */
 typedef struct {
     size_t kind, polygon;
     Place first, second;
 } Invalidity;
 
 /* offsets has room for one more than there are rings. It is false where an allocation failed. */
-bool find_invalidity(const Geometry *geometry, Pause pause, size_t *offsets, Invalidity *found);
+bool find_invalidity(const Geometry *geometry, Rule rule, Pause pause, size_t *offsets, Invalidity *found);
 /* Why a geometry that isn't valid isn't, with points as the grid brings them back. */
 void put_reason(const Invalidity *found, Grid grid, char text[REASON_SIZE]);
 /* How often the rings wind about a safe point together. */

@@ -101,12 +101,12 @@ static void put_point_text(const i_shape_point_i64 *point, Grid grid, char text[
     snprintf(text, POINT_TEXT_SIZE, "(%s, %s)", x, y);
 }
 
-static void put_contact(const Place *first, const Place *second, Grid grid, char *text, size_t room) {
+static void put_edges(const Place *first, const char *do_what, const Place *second, const char *then, Grid grid, char *text, size_t room) {
     char one[POINT_TEXT_SIZE], other[POINT_TEXT_SIZE], ring[FLOAT_SIZE] = "";
     put_point_text(first->point, grid, one);
     put_point_text(second->point, grid, other);
     if (second->ring != first->ring) snprintf(ring, sizeof ring, " of ring %zu", second->ring);
-    snprintf(text, room, "edge %zu from %s meets edge %zu%s from %s", first->number, one, second->number, ring, other);
+    snprintf(text, room, "edge %zu from %s %s edge %zu%s from %s%s", first->number, one, do_what, second->number, ring, other, then);
 }
 
 void put_reason(const Invalidity *found, Grid grid, char text[REASON_SIZE]) {
@@ -120,7 +120,8 @@ void put_reason(const Invalidity *found, Grid grid, char text[REASON_SIZE]) {
     }
     switch (found->kind) {
     case I_SHAPE_TOO_FEW_POINTS: snprintf(words, room, "it has fewer than three points, or only equal ones%s", at); return;
-    case I_SHAPE_CONTACT: put_contact(&found->first, &found->second, grid, words, room); return;
+    case I_SHAPE_CONTACT: put_edges(&found->first, "meets", &found->second, "", grid, words, room); return;
+    case I_SHAPE_DISCONNECTED: put_edges(&found->first, "touches", &found->second, ", which parts the inside", grid, words, room); return;
     case I_SHAPE_HOLE_OUTSIDE: snprintf(words, room, "it is a hole outside the outer ring%s", at); return;
     case I_SHAPE_HOLE_WITHIN: snprintf(words, room, "it is a hole within ring %zu, another hole%s", found->second.ring, at); return;
     default: *text = 0;

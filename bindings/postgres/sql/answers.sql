@@ -101,7 +101,17 @@ SELECT name, got FROM (VALUES
     ('a hole outside', i_shape_validity_reason('POLYGON((0 0,4 0,4 4,0 0),(6 1,6 2,7.1 1,6 1))', 0.1), 'polygon 1, ring 2: it is a hole outside the outer ring, at (6, 1)'),
     ('a hole within', i_shape_validity_reason('POLYGON((0 0,9 0,9 9,0 9,0 0),(2 2,4 2,4 4,2 2),(1 1,8 1,8 8,1 8,1 1))', 1),
      'polygon 1, ring 2: it is a hole within ring 3, another hole, at (2, 2)'),
-    ('a ring without points', i_shape_wkb_validity_reason('\x01030000000100000000000000', 1), 'polygon 1, ring 1: it has fewer than three points, or only equal ones')
+    ('a ring without points', i_shape_wkb_validity_reason('\x01030000000100000000000000', 1), 'polygon 1, ring 1: it has fewer than three points, or only equal ones'),
+    ('a hole that may touch', i_shape_validity_reason('POLYGON((0 0,4 0,4 4,0 4,0 0),(0 1,1 1,1 2,0 1))', 1, true), NULL),
+    ('a hole that crosses', i_shape_validity_reason('POLYGON((0 0,4 0,4 4,0 4,0 0),(1 1,9 1,1 2,1 1))', 1, true),
+     'polygon 1, ring 1: edge 2 from (4, 0) meets edge 1 of ring 2 from (1, 1)'),
+    ('a hole that touches twice', i_shape_validity_reason('POLYGON((0 0,8 0,8 8,0 8,0 0),(0 4,8 4,4 6,0 4))', 1, true),
+     'polygon 1, ring 1: edge 2 from (8, 0) touches edge 1 of ring 2 from (0, 4), which parts the inside'),
+    ('a hole that touches from outside', i_shape_validity_reason('POLYGON((0 0,8 0,8 8,4 4,0 8,0 0),(4 4,2 7,6 7,4 4))', 1, true),
+     'polygon 1, ring 2: it is a hole outside the outer ring, at (4, 4)'),
+    ('a hole that touches another from inside',
+     i_shape_validity_reason('POLYGON((0 0,9 0,9 9,0 9,0 0),(1 1,7 1,7 7,1 7,1 1),(1 3,3 2,3 4,1 3))', 1, true),
+     'polygon 1, ring 3: it is a hole within ring 2, another hole, at (1, 3)')
 ) AS row(name, got, wanted) WHERE got IS DISTINCT FROM wanted;
 
 \echo where edges meet: what answers something else

@@ -16,7 +16,7 @@ NUMBERS = random.Random(71)
 ANSWERS = ", ".join(f"i_shape_{call}" for call in (
     "simplify(geom, step)", "despike(geom, step)", "canonical(geom, step)", "canonical(geom, step, 1)", "key(geom, step)", "key(geom, step, 1)",
     "digest(geom, step)", "is_clean(geom, step)", "has_no_spikes(geom, step)", "is_valid(geom, step)",
-    "validity_reason(geom, step)", "contact_points(geom, step)", "area_two(geom, step)", "winding(geom, point, step)"))
+    "validity_reason(geom, step)", "is_valid(geom, step, 1)", "validity_reason(geom, step, 1)", "contact_points(geom, step)", "area_two(geom, step)", "winding(geom, point, step)"))
 
 
 def wkb_of(blob):

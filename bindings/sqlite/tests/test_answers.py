@@ -57,6 +57,14 @@ REASONS = [
     ("POLYGON((0 0,4 0,4 4,0 0),(6 1,6 2,7.1 1,6 1))", 0.1, "polygon 1, ring 2: it is a hole outside the outer ring, at (6, 1)"),
     ("POLYGON((0 0,9 0,9 9,0 9,0 0),(2 2,4 2,4 4,2 2),(1 1,8 1,8 8,1 8,1 1))", 1, "polygon 1, ring 2: it is a hole within ring 3, another hole, at (2, 2)"),
 ]
+TOUCHING_REASONS = [
+    ("POLYGON((0 0,4 0,4 4,0 4,0 0),(1 1,2 1,1 2,1 1))", 1, None), ("POLYGON((0 0,4 0,4 4,0 4,0 0),(0 1,1 1,1 2,0 1))", 1, None),
+    ("POLYGON((0 0,4.5 4.5,4.5 0,0 4.5,0 0))", 0.5, "polygon 1, ring 1: edge 1 from (0, 0) meets edge 3 from (4.5, 0)"),
+    ("POLYGON((0 0,8 0,8 8,0 8,0 0),(0 4,8 4,4 6,0 4))", 1,
+     "polygon 1, ring 1: edge 2 from (8, 0) touches edge 1 of ring 2 from (0, 4), which parts the inside"),
+    ("POLYGON((0 0,8 0,8 8,4 4,0 8,0 0),(4 4,2 7,6 7,4 4))", 1, "polygon 1, ring 2: it is a hole outside the outer ring, at (4, 4)"),
+    ("POLYGON((0 0,9 0,9 9,0 9,0 0),(1 1,7 1,7 7,1 7,1 1),(1 3,3 2,3 4,1 3))", 1, "polygon 1, ring 3: it is a hole within ring 2, another hole, at (1, 3)"),
+]
 
 
 class AnswersTest(unittest.TestCase):
@@ -154,6 +162,15 @@ class AnswersTest(unittest.TestCase):
         self.assertEqual(self.ask("validity_reason(?, 1)", wkb("POLYGON EMPTY")[:5] + b"\1\0\0\0" + bytes(4)),
                          "polygon 1, ring 1: it has fewer than three points, or only equal ones")
 
+    def test_touching_reasons(self):
+        for given, step, wanted in TOUCHING_REASONS:
+            for form, blob in FORMS.items():
+                with self.subTest(given=given, form=form):
+                    self.assertEqual([self.ask(f"{name}(?, ?, 1)", blob(given), step) for name in ("validity_reason", "is_valid")], [wanted, wanted is None])
+        for given, step, _ in REASONS:
+            for name in ("validity_reason", "is_valid"):
+                self.assertEqual(self.ask(f"{name}(?, ?, 0)", wkb(given), step), self.ask(f"{name}(?, ?)", wkb(given), step))
+
     def test_winding(self):
         hollow = "POLYGON((0 0,9 0,9 9,0 9,0 0),(1 1,1 8,8 8,8 1,1 1))"
         for form, blob in FORMS.items():
@@ -166,7 +183,7 @@ class AnswersTest(unittest.TestCase):
         blob = wkb(CLEAN)
         for name in ("simplify", "despike", "canonical", "key", "digest", "is_clean", "is_valid", "validity_reason", "contact_points", "area_two"):
             self.assertEqual([self.ask(f"{name}(?, ?)", *values) for values in ((None, 1), (blob, None), (None, None), (None, "x"), ("x", None))], [None] * 5)
-        for name in ("canonical", "key", "digest"):
+        for name in ("canonical", "key", "digest", "is_valid", "validity_reason"):
             self.assertIsNone(self.ask(f"{name}(?, 1, NULL)", blob))
         self.assertEqual([self.ask("winding(?, ?, ?)", *values) for values in ((None, blob, 1), (blob, None, 1), (blob, blob, None))], [None] * 3)
         self.assertIsNone(self.ask("simplify(?, ?)", blob, float("nan")))  # SQLite has no NaN

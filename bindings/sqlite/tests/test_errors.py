@@ -100,10 +100,12 @@ class ErrorsTest(unittest.TestCase):
                 self.assertNotEqual(locale.localeconv()["decimal_point"], ".")
                 self.assertIn("y is -1234567.1234567892, 2^49", self.error_of("key(?, 1e-300)", wkb("POLYGON((0 0,0 -1234567.1234567891,4 4,0 0))")))
 
-    def test_oriented(self):
+    def test_third_arguments(self):
         for value, wanted in (2, "2"), (-1, "-1"), (1.0, "a float"), ("1", "a text"), (b"", "a blob"):
             for name in ("canonical", "key", "digest"):
                 self.assertEqual(self.error_of(f"{name}(?, 1, ?)", TRIANGLE, value), f"i_shape: oriented is {wanted}, not 0 or 1")
+            for name in ("is_valid", "validity_reason"):
+                self.assertEqual(self.error_of(f"{name}(?, 1, ?)", TRIANGLE, value), f"i_shape: touching is {wanted}, not 0 or 1")
 
     def test_winding(self):
         for point, wanted in [

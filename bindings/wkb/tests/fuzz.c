@@ -122,19 +122,20 @@ static void check_key(const Geometry *given, const Geometry *left, bool oriented
 }
 
 /* The first fault of the first polygon that has one is where the C library finds it in all of them. */
-static void check_invalidity(const Geometry *given, Grid grid) {
+static void check_invalidity(const Geometry *given, Rule rule, Grid grid) {
+    __typeof__(&i_shape_validity_shapes_i64) test = rule == RINGS_MAY_TOUCH ? i_shape_touching_validity_shapes_i64 : i_shape_validity_shapes_i64;
     size_t *offsets = block_of((given->counts.rings + 1) * sizeof *offsets);
     size_t *ends = block_of((given->counts.polygons + 1) * sizeof *ends);
     i_shape_fault *faults = block_of((given->counts.polygons + 1) * sizeof *faults);
     char text[REASON_SIZE];
     Invalidity found;
-    must(find_invalidity(given, no_pause, offsets, &found), "no memory");
+    must(find_invalidity(given, rule, no_pause, offsets, &found), "no memory");
     put_reason(&found, grid, text);
     must((found.kind == I_SHAPE_VALID) == (*text == 0), "a fault without a reason");
     ends[0] = 0;
     for (size_t k = 0; k < given->counts.polygons; k++) ends[k + 1] = ends[k] + given->polygons[k].count;
-    must(i_shape_validity_shapes_i64(given->points, given->counts.points, offsets, given->counts.rings + 1, ends, given->counts.polygons + 1, faults,
-                                     given->counts.polygons) == 0, "no faults");
+    must(test(given->points, given->counts.points, offsets, given->counts.rings + 1, ends, given->counts.polygons + 1, faults, given->counts.polygons) == 0,
+         "no faults");
     size_t first = 0;
     while (first < given->counts.polygons && faults[first].kind == I_SHAPE_VALID) first++;
     bool is_valid = first == given->counts.polygons;
@@ -157,7 +158,7 @@ static void check_contacts(const Geometry *given, Grid grid) {
     size_t *offsets = block_of((given->counts.rings + 1) * sizeof *offsets);
     i_shape_contact *none = block_of(0);
     Invalidity fault;
-    must(find_invalidity(given, no_pause, offsets, &fault), "no memory");
+    must(find_invalidity(given, RINGS_APART, no_pause, offsets, &fault), "no memory");
     size_t count = list_contacts(given, no_pause, offsets, none, 0), half = count / 2;
     if (fault.kind == I_SHAPE_VALID) must(count == 0, "a valid geometry has contacts");
     if (fault.kind == I_SHAPE_CONTACT) must(count > 0, "a geometry with a contact has none");
@@ -191,7 +192,8 @@ static FaultKind check_block(Block wkb) {
         must(i_shape_has_no_spikes_i64(despiked.rings[k].points, despiked.rings[k].count), "what is despiked has spikes");
     check_written(&left, grid);
     check_key(&given, &left, below(2));
-    check_invalidity(&given, grid);
+    check_invalidity(&given, RINGS_APART, grid);
+    check_invalidity(&given, RINGS_MAY_TOUCH, grid);
     check_contacts(&given, grid);
     area_two(&given, no_pause);
     winding(&given, (i_shape_point_i64){1, 1}, no_pause);
@@ -318,7 +320,7 @@ static void check_pauses(void) {
     must_have_paused(1);
     size_t offsets[2];
     Invalidity found;
-    must(find_invalidity(&form, count_pause, offsets, &found), "no memory");
+    must(find_invalidity(&form, RINGS_APART, count_pause, offsets, &found), "no memory");
     must_have_paused(counts.points / PAUSE_TESTED + 1);
     check_pauses_of_contacts(&form, grid);
     free(given.points);
