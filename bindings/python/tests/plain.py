@@ -193,6 +193,71 @@ def first_fault(rings):
     return 0, 0, 0
 
 
+def rings_and_edges(rings):
+    """Of each point of the rings end to end, its ring and the edge from it."""
+    return [(place, (a, b)) for place, ring in enumerate(rings)
+            for a, b in zip(ring, ring[1:] + ring[:1])]
+
+
+def pieces(edge, points):
+    """The ends of an edge and the middles between its points, of which the
+    first and the last are its ends."""
+    points = sorted({*edge, *points})
+    return [*edge, *(tuple(Fraction(p + q, 2) for p, q in zip(*ends))
+                     for ends in zip(points, points[1:]))]
+
+
+def lies_on(point, ring):
+    return any(shared(point, point, a, b)
+               for a, b in zip(ring, ring[1:] + ring[:1]))
+
+
+def first_circle(touches):
+    """The first touch of rings that touches at lesser points join. The
+    touches are points, with the two edges and their rings."""
+    joined = []
+    for point in sorted({point for point, *_ in touches}):
+        here = [touch for touch in sorted(touches) if touch[0] == point]
+        for _, edges, pair in here:
+            if any(pair <= group for group in joined):
+                return 5, *edges
+        for _, _, pair in here:
+            groups = [group for group in joined if group & pair]
+            joined = [group for group in joined if not group & pair]
+            joined.append(pair.union(*groups))
+    return 0, 0, 0
+
+
+def first_touching_fault(rings):
+    """The first fault of a polygon whose rings may touch."""
+    for place, ring in enumerate(rings):
+        if is_degenerate(ring):
+            return 1, place, 0
+    edges, touches = rings_and_edges(rings), []
+    for i, j, kind in contacts(rings):
+        (one, first), (other, second) = edges[i], edges[j]
+        if one == other or kind != i_shape.ContactKind.TOUCH:
+            return 2, i, j
+        point, _ = shared(*first, *second)
+        touches.append((point, (i, j), frozenset({one, other})))
+    samples = {hole: [] for hole in range(1, len(rings))}
+    for place, (ring, edge) in enumerate(edges):
+        if ring:
+            samples[ring] += pieces(edge, [
+                point for point, pair, _ in touches if place in pair])
+    for hole, points in samples.items():
+        if any(not (winding(rings[0], point) or lies_on(point, rings[0]))
+               for point in points):
+            return 3, hole, 0
+    for hole, points in samples.items():
+        for other in samples:
+            if other != hole and any(
+                    winding(rings[other], point)
+                    and not lies_on(point, rings[other]) for point in points):
+                return 4, hole, other
+    return first_circle(touches)
+
+
 def contains(ring, point):
     x, y = point
     inside = False

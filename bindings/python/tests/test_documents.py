@@ -57,7 +57,7 @@ class Documents(unittest.TestCase):
                         self.assertEqual(
                             its.kind is its.KEYWORD_ONLY,
                             its.name in ("collapsed", "halves", "others", "oriented",
-                                         "rule", "threads"),
+                                         "rule", "threads", "touching"),
                             (name, its.name))
 
     def test_the_examples_of_the_pages(self):

@@ -1,5 +1,6 @@
 """The faults of features: in words, of a GeoSeries, and by the command."""
 
+import itertools
 import json
 import random
 import unittest
@@ -59,20 +60,49 @@ FAULTS = [
     ("POLYGON (EMPTY)", (Fault.TOO_FEW_POINTS, 0, 0, None, None, ()),
      "polygon 0, ring 0: it has fewer than three points, or only equal ones"),
 ]
-GIVEN = io.from_wkt([text for text, _, _ in FAULTS])
-LINES = [(place, told) for place, (_, fault, told) in enumerate(FAULTS)
-         if fault]
+# The same where rings may touch.
+WIDE = "(0 0, 9 0, 9 9, 0 9, 0 0)"
+TOUCHING = [
+    (f"POLYGON ({SQUARE}, (0.5 1, 1 1, 1 1.5, 0.5 1))", None, "None"),
+    *(FAULTS[place] for place in (2, 4, 6)),
+    (f"POLYGON ({SQUARE}, (2.5 1, 3 0.5, 3 1.5, 2.5 1))",
+     (Fault.HOLE_OUTSIDE, 0, 1, None, None, ((2.5, 1.0),)),
+     "polygon 0, ring 1: it is a hole outside the outer ring, at (2.5, 1)"),
+    (f"POLYGON ({WIDE}, (1 1, 3 2, 2 3, 1 1), (1 1, 8 1, 8 8, 1 8, 1 1))",
+     (Fault.HOLE_WITHIN, 0, 1, 2, None, ((1.0, 1.0),)),
+     "polygon 0, ring 1: it is a hole within ring 2, another hole, at"
+     " (1, 1)"),
+    # 2.4 is 10 steps, as 2.5 is
+    (f"POLYGON ({SQUARE}, (0.5 1, 1 1.5, 2.4 1, 0.5 1))",
+     (Fault.DISCONNECTED, 0, 0, 1, (1, 1), ((2.5, 1.0),),
+      ((2.5, 0.0), (1.0, 1.5))),
+     "polygon 0, ring 0: edge 1 from (2.5, 0) touches edge 1 of ring 1 from"
+     " (1, 1.5), which parts the inside"),
+    (f"MULTIPOLYGON (({SQUARE}, (0.5 1, 1 1, 1 1.5, 0.5 1)), ({SQUARE},"
+     " (0.5 0.5, 1 1, 1.5 0.5, 0.5 0.5), (0.5 1, 1 1, 1 1.5, 0.5 1)))",
+     (Fault.DISCONNECTED, 1, 1, 2, (0, 0), ((1.0, 1.0),),
+      ((0.5, 0.5), (0.5, 1.0))),
+     "polygon 1, ring 1: edge 0 from (0.5, 0.5) touches edge 0 of ring 2"
+     " from (0.5, 1), which parts the inside"),
+]
+# Whether rings may touch, the features, and their faults with the words.
+RULES = [(touching, io.from_wkt([text for text, _, _ in rows]),
+          [(fault, told) for _, fault, told in rows])
+         for touching, rows in ((False, FAULTS), (True, TOUCHING))]
+GIVEN = RULES[0][1]
 
 
 class Explained(unittest.TestCase):
 
     def test_features(self):
-        for step in (0.25, io.Grid(0.25)):
-            found = io.explain_validity(GIVEN, step, threads=2)
+        for (touching, given, faults), step in itertools.product(
+                RULES, (0.25, io.Grid(0.25))):
+            found = io.explain_validity(given, step, touching=touching,
+                                        threads=2)
             self.assertEqual(found, [fault and io.FeatureFault(*fault)
-                                     for _, fault, _ in FAULTS])
+                                     for fault, _ in faults])
             self.assertEqual(list(map(str, found)),
-                             [told for _, _, told in FAULTS])
+                             [told for _, told in faults])
 
     def test_edges_meet_where_fractions_say(self):
         numbers = random.Random(97)
@@ -129,6 +159,12 @@ class Explained(unittest.TestCase):
                 Fault.CONTACT, 0, 0, 0, (0, 2), ((2.0, 2.0),),
                 ((0.0, 0.0), (4.0, 0.0)))])
         self.assertIn("polygon 0, ring 0: edge 0 from", found.to_string())
+        touching = geopandas.GeoSeries.from_wkt(
+            [text for text, _, _ in TOUCHING])
+        self.assertEqual(
+            io.explain_validity(touching, 0.25, touching=True).tolist(),
+            [fault and io.FeatureFault(*fault)
+             for fault, _ in RULES[True][2]])
         with self.assertRaises(io.FeatureError) as told:
             io.explain_validity(series, 1)
         self.assertEqual(told.exception.feature, 0)
@@ -142,15 +178,19 @@ class Explained(unittest.TestCase):
 class Checked(CommandCase):
 
     def test_texts(self):
-        last = f"i_shape: {len(LINES)} of {len(FAULTS)} features invalid\n"
-        for name, place in (("given.geojson", "feature {0}"),
-                            ("given.wkt", "line {1}: feature {0}")):
+        for (touching, given, faults), (name, place) in itertools.product(
+                RULES, (("given.geojson", "feature {0}"),
+                        ("given.wkt", "line {1}: feature {0}"))):
             path = self.folder / name
-            self.write_features(path, GIVEN)
-            told = self.run_command("check", path, "--step", "0.25", status=1)
-            self.assertEqual(told, ("".join(
-                f"{place.format(at, at + 1)}: {words}\n"
-                for at, words in LINES), last))
+            self.write_features(path, given)
+            told = self.run_command(
+                "check", path, "--step", "0.25",
+                *["--touching"] * touching, status=1)
+            lines = [f"{place.format(at, at + 1)}: {words}\n"
+                     for at, (fault, words) in enumerate(faults) if fault]
+            self.assertEqual(told, (
+                "".join(lines), f"i_shape: {len(lines)} of {len(faults)}"
+                " features invalid\n"))
             self.assertEqual(list(self.folder.iterdir()), [path])
             path.unlink()
 
@@ -182,6 +222,24 @@ class Checked(CommandCase):
               {"fid": 1, "reason": "polygon 0, ring 0: edge 0 from (0, 0)"
                " meets edge 2 from (4, 0)"}),
              (None, {"fid": 2, "reason": FAULTS[-1][2]})])
+
+    def test_points_of_touches(self):
+        self.write(samples.geojson(*(
+            samples.polygon(samples.SQUARE, [(2, 0), (x, 2), (1, 1)])
+            for x in (3, 4))))
+        told = {}
+        for words in ([], ["--touching"]):
+            self.run_command("check", self.given, "--step", "1", "--to",
+                             self.out, *words, status=1)
+            told[len(words)] = [
+                (one["geometry"]["coordinates"], one["properties"])
+                for one in json.loads(self.out.read_text())["features"]]
+        edges = "polygon 0, ring 0: edge {} from ({}, 0) {} edge 0 of ring 1"
+        self.assertEqual(told, {
+            0: [([2, 0], {"fid": fid, "reason": edges.format(0, 0, "meets")
+                          + " from (2, 0)"}) for fid in (0, 1)],
+            1: [([4, 2], {"fid": 1, "reason": edges.format(1, 4, "touches")
+                          + " from (2, 0), which parts the inside"})]})
 
     def test_the_points_have_the_members_of_the_collection(self):
         crs = {"type": "name",
@@ -248,7 +306,9 @@ class Checked(CommandCase):
                  "--to FILE is IN"),
                 (["simplify", self.given, *step], "required: OUT"),
                 (["simplify", self.given, self.out, *step, "--to", "a.json"],
-                 "--to is for check")):
+                 "--to is for check"),
+                (["dedup", self.given, self.out, *step, "--touching"],
+                 "--touching is for check")):
             with self.subTest(words=words):
                 self.assertIn(told, self.run_command(*words, status=2)[1])
         self.assertEqual([path.name for path in self.folder.iterdir()],

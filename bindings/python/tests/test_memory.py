@@ -141,28 +141,34 @@ class FailedAllocations(unittest.TestCase):
             self.skipTest("the system gave memory beyond the limit")
         self.assertEqual(told.stdout, word * 5)
 
-    def test_no_memory_for_the_answer(self):
+    def test_no_memory_for_contacts(self):
         # Each two of these edges overlap.
         program = textwrap.dedent("""
             import resource
             import numpy as np
             import i_shape
             points = np.tile(np.array([(0, 0), (4, 0)]), (2000, 1))
+            polygons = points, [0, 2, len(points)], [0, 1, 2]
             _, hard = resource.getrlimit(resource.RLIMIT_AS)
             with open("/proc/self/statm") as file:
                 held = int(file.read().split()[0])
             room = held * resource.getpagesize() + 10 ** 7
             resource.setrlimit(resource.RLIMIT_AS, (room, hard))
-            try:
-                i_shape.contacts(points)
-            except MemoryError:
-                print("refused")
+            for call in (lambda: i_shape.contacts(points),
+                         lambda: i_shape.polygon_validity(*polygons,
+                                                          touching=True)):
+                try:
+                    call()
+                except MemoryError:
+                    print("refused")
             print(i_shape.contacts(points[:3]).tolist())
+            print(i_shape.polygon_validity(*polygons).tolist())
         """)
         told = subprocess.run([sys.executable, "-c", program],
                               capture_output=True, text=True, check=False)
-        self.assertEqual((told.stdout, told.stderr),
-                         ("refused\n[[0, 1]]\n", ""))
+        self.assertEqual(
+            (told.stdout, told.stderr),
+            ("refused\nrefused\n[[0, 1]]\n[(1, 0, 0), (2, 2, 3)]\n", ""))
 
 
 if __name__ == "__main__":

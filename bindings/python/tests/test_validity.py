@@ -1,6 +1,7 @@
-"""The first faults of polygons: by hand, beside plain loops, and beside
-shapely, whose rule is another one."""
+"""The first faults of polygons, whose rings may touch or not: by hand,
+beside plain loops, and beside shapely, whose rule lets them touch."""
 
+import itertools
 import random
 import unittest
 
@@ -28,6 +29,12 @@ BOW_TIE = [(0, 0), (4, 4), (4, 0), (0, 4)]
 STRAIGHT = [(0, 0), (2, 0), (4, 0), (4, 4)]
 TO_VERTEX = [(0, 0), (1, 2), (2, 1)]
 TO_EDGE = [(1, 1), (2, 1), (2, 4)]
+TO_BOTH = [(0, 0), (2, 4), (2, 1)]
+ON_EDGE = [(0, 1), (0, 3), (2, 2)]
+CHAIN = [[(-4, 0), (0, 0), (0, -2)], [(0, 0), (2, 2), (3, 1)],
+         [(2, 2), (0, 4), (2, 4)]]
+NOTCHED = [(0, 0), (9, 0), (9, 9), (5, 4), (0, 9)]
+AROUND = [(0, 0), (2, 0), (4, 0), (4, 2), (4, 4), (2, 4), (0, 4), (0, 2)]
 
 # Polygons, and the kind of the fault of each, with the places in it.
 BY_HAND = [
@@ -50,10 +57,49 @@ BY_HAND = [
     ([WIDE, LEFT, ASIDE, INNER], Fault.HOLE_WITHIN, 3, 1),
 ]
 
+# The same where rings may touch.
+BY_HAND_TOUCHING = [
+    ([], Fault.VALID, 0, 0),
+    ([SQUARE, TO_VERTEX], Fault.VALID, 0, 0),
+    ([SQUARE, TO_EDGE], Fault.VALID, 0, 0),
+    ([WIDE, *CHAIN], Fault.VALID, 0, 0),
+    ([WIDE[::-1], *CHAIN[::-1]], Fault.VALID, 0, 0),
+    ([WIDE, *([(0, 0), *ring] for ring in (
+        [(2, 1), (1, 2)], [(-1, 2), (-2, 1)], [(1, -2), (2, -1)]))],
+     Fault.VALID, 0, 0),
+    ([[]], Fault.TOO_FEW_POINTS, 0, 0),
+    ([BOW_TIE, SQUARE[:2]], Fault.TOO_FEW_POINTS, 1, 0),
+    ([BOW_TIE], Fault.CONTACT, 0, 2),
+    ([SQUARE[:1] + SQUARE], Fault.CONTACT, 1, 4),
+    ([SQUARE + TO_VERTEX], Fault.CONTACT, 0, 3),
+    ([SQUARE, TO_EDGE, ON_EDGE], Fault.CONTACT, 3, 7),
+    ([SQUARE, SQUARE], Fault.CONTACT, 0, 4),
+    ([SQUARE, ASIDE], Fault.HOLE_OUTSIDE, 1, 0),
+    ([SQUARE, TO_EDGE, [(4, 2), (6, 1), (6, 3)]], Fault.HOLE_OUTSIDE, 2, 0),
+    # a hole of which all points but one lie inside or on the outer ring
+    ([NOTCHED, [(2, 3), (5, 4), (5, 8), (4, 5)]], Fault.HOLE_OUTSIDE, 1, 0),
+    # each vertex lies on the outer ring
+    ([NOTCHED, [(9, 9), (5, 4), (0, 9)]], Fault.CONTACT, 2, 5),
+    ([NOTCHED[:3] + [(7, 4), (5, 4), (2, 4)] + NOTCHED[4:],
+      [(9, 9), (5, 4), (0, 9)]], Fault.HOLE_OUTSIDE, 1, 0),
+    ([WIDE, [(-8, 8), (-7, 0), (-2, -8)], LEFT], Fault.HOLE_WITHIN, 1, 2),
+    ([WIDE, LEFT, [(-8, 8), (-7, 0), (-2, -8)]], Fault.HOLE_WITHIN, 2, 1),
+    ([SQUARE, TO_BOTH], Fault.DISCONNECTED, 2, 4),
+    ([SQUARE, [(2, 0), (4, 2), (2, 4), (0, 2)]], Fault.DISCONNECTED, 0, 4),
+    ([WIDE, *CHAIN, [(0, 4), (-4, 4), (-4, 0)]], Fault.DISCONNECTED, 7, 10),
+    ([WIDE, [(-9, 0), (-4, 0), (-4, 4)], *CHAIN, [(2, 4), (9, 9), (8, 4)]],
+     Fault.DISCONNECTED, 1, 16),
+]
+
+
+# Whether rings may touch, polygons by hand, and the fault by plain loops.
+RULES = ((False, BY_HAND, plain.first_fault),
+         (True, BY_HAND_TOUCHING, plain.first_touching_fault))
+
 
 def placed(kind, first, second, rings, points):
     """The fault behind so many rings and points."""
-    if kind == Fault.CONTACT:
+    if kind in (Fault.CONTACT, Fault.DISCONNECTED):
         return int(kind), first + points, second + points
     return (int(kind), first + rings * (kind != Fault.VALID),
             second + rings * (kind == Fault.HOLE_WITHIN))
@@ -71,30 +117,30 @@ def all_placed(polygons, faults):
 class Answers(unittest.TestCase):
 
     def test_by_hand(self):
-        polygons = [polygon for polygon, *_ in BY_HAND]
-        right = list(all_placed(polygons, [fault for _, *fault in BY_HAND]))
-        for dtype in plain.DTYPES:
-            points, rings, ends = flat(polygons, dtype)
-            for threads in (1, 3):
-                faults = i_shape.polygon_validity(points, rings, ends,
-                                                  threads=threads)
-                self.assertEqual(faults.tolist(), right)
-            self.assertEqual(
-                i_shape.polygon_validity(points, rings, ends[3:9]).tolist(),
-                right[3:8])
-            self.assertEqual(
-                i_shape.polygon_validity(points, rings, ends[:1]).tolist(),
-                [])
+        for touching, rows, _ in RULES:
+            polygons = [polygon for polygon, *_ in rows]
+            right = list(all_placed(polygons, [fault for _, *fault in rows]))
+            for dtype in plain.DTYPES:
+                points, rings, ends = flat(polygons, dtype)
+                for threads in (1, 3):
+                    faults = i_shape.polygon_validity(
+                        points, rings, ends, touching=touching,
+                        threads=threads)
+                    self.assertEqual(faults.tolist(), right)
+                for low, high in ((0, 1), (3, 9), (12, len(ends))):
+                    faults = i_shape.polygon_validity(
+                        points, rings, ends[low:high], touching=touching)
+                    self.assertEqual(faults.tolist(), right[low:high - 1])
 
     def test_random_polygons_and_offsets_that_leave_some_out(self):
-        kinds = set()
-        for dtype in plain.DTYPES:
-            numbers = random.Random(73)
+        kinds = {touching: set() for touching, *_ in RULES}
+        for dtype, (touching, _, first_fault) in itertools.product(
+                plain.DTYPES, RULES):
+            numbers = random.Random(73 + np.dtype(dtype).itemsize)
             for _ in range(200):
-                polygons = [small_polygon(numbers)
-                            for _ in range(numbers.randrange(6))]
-                right = list(all_placed(
-                    polygons, map(plain.first_fault, polygons)))
+                polygons = [numbers.choice([small_polygon, touching_polygon])(
+                    numbers) for _ in range(numbers.randrange(6))]
+                right = list(all_placed(polygons, map(first_fault, polygons)))
                 points, rings, ends = flat(polygons, dtype)
                 low = numbers.randrange(len(ends))
                 high = numbers.randrange(low, len(ends))
@@ -102,12 +148,27 @@ class Answers(unittest.TestCase):
                 points[:rings[ends[low]]] = np.iinfo(dtype).min
                 points[rings[ends[high]]:] = np.iinfo(dtype).max
                 faults = i_shape.polygon_validity(
-                    points, rings, ends[low:high + 1],
+                    points, rings, ends[low:high + 1], touching=touching,
                     threads=numbers.randint(1, 3))
                 self.assertEqual(faults.tolist(), right[low:high],
                                  (polygons, low, high))
-                kinds.update(faults["kind"].tolist())
-        self.assertEqual(kinds, set(Fault))
+                kinds[touching].update(faults["kind"].tolist())
+        self.assertEqual(kinds, {False: {*Fault} - {Fault.DISCONNECTED},
+                                 True: {*Fault}})
+
+    def test_coordinates_of_any_safe_size(self):
+        """A square whose hole touches it once, or twice."""
+        for dtype in plain.DTYPES:
+            most = plain.bound(dtype) - 1
+            outer = [(-most, -most), (most, -most), (most, most),
+                     (-most, most)]
+            holes = [[(1 - most, 0), (0, 1), (1, 0)],
+                     [(-most, 0), (0, most), (1, 0)]]
+            given = flat([[outer, hole] for hole in (
+                holes[0], holes[1][:1] + holes[0][1:], holes[1])], dtype)
+            self.assertEqual(
+                i_shape.polygon_validity(*given, touching=True).tolist(),
+                [(0, 0, 0), (0, 0, 0), (5, 16, 18)])
 
 
 def small_contours(count):
@@ -177,16 +238,18 @@ class Errors(unittest.TestCase):
 
     def test_errors(self):
         points = np.array([(0, 0), (2**30, 0), (4, 4), (0, 4)], np.int32)
-        for threads in (1, 2):
+        for touching, threads in itertools.product((False, True), (1, 2)):
             with self.assertRaises(i_shape.UnsafePointError) as told:
                 i_shape.polygon_validity(points, [0, 1, 1, 4], [0, 1, 3],
-                                         threads=threads)
+                                         touching=touching, threads=threads)
             self.assertEqual(
                 (told.exception.ring, told.exception.point), (2, 1))
-        for rings, ends in (([], [0]), ([0, 3, 2], [0, 2]), ([0, 5], [0, 1]),
-                            ([0, 4], [0, 2]), ([0, 4], [])):
+        for touching, (rings, ends) in itertools.product((False, True), (
+                ([], [0]), ([0, 3, 2], [0, 2]), ([0, 5], [0, 1]),
+                ([0, 4], [0, 2]), ([0, 4], []))):
             with self.assertRaises(i_shape.OffsetsError):
-                i_shape.polygon_validity(points, rings, ends)
+                i_shape.polygon_validity(points, rings, ends,
+                                         touching=touching)
 
 
 def small_ring(numbers, span):
@@ -217,6 +280,20 @@ def tiny_polygon(numbers):
         outer = small_ring(numbers, 3)
     return [outer, *(small_ring(numbers, 3)
                      for _ in range(numbers.randrange(3)))]
+
+
+def touching_polygon(numbers):
+    """A square of nine cells, and holes with their points around a cell, some
+    of them outside; into some reaches another hole."""
+    rings = [[(0, 0), (12, 0), (12, 12), (0, 12)]]
+    for _ in range(numbers.randint(1, 4)):
+        x, y = (4 * min(numbers.randrange(10) // 3, 3) for _ in range(2))
+        places = sorted(numbers.sample(range(8), numbers.choice([3, 4])))
+        rings.append([(x + AROUND[k][0], y + AROUND[k][1]) for k in places])
+        if numbers.random() < 0.2:
+            inner = [rings[-1][0], (x + 2, y + 2), (x + 2, y + 1)]
+            rings.insert(numbers.randint(1, len(rings)), inner)
+    return rings
 
 
 def without_repeats(polygon):
@@ -270,16 +347,32 @@ class BesideShapely(unittest.TestCase):
             "valid for both", "invalid for both", "a repeated point",
             "a touch at a point"})
 
+    def test_rings_that_may_touch_are_valid_for_both_or_neither(self):
+        numbers = random.Random(76)
+        polygons = []
+        while len(polygons) < self.COUNT:
+            make = numbers.choice([tiny_polygon, touching_polygon])
+            polygon = without_repeats(make(numbers))
+            if all(len(ring) >= 3 for ring in polygon):
+                polygons.append(polygon)
+        kinds = i_shape.polygon_validity(
+            *flat(polygons, np.int32), touching=True)["kind"].tolist()
+        for polygon, kind in zip(polygons, kinds):
+            self.assertEqual(
+                geometry.Polygon(polygon[0], polygon[1:]).is_valid,
+                kind == Fault.VALID, polygon)
+        self.assertEqual({*kinds}, {*Fault} - {Fault.TOO_FEW_POINTS})
+
     def test_what_make_valid_leaves_may_touch(self):
         ring = SQUARE + [(0, 0), (1, 2), (2, 1)]
         repaired = validation.make_valid(geometry.Polygon(ring))
         self.assertTrue(repaired.is_valid)
-        polygons = io.from_shapely([repaired]).polygons
-        points, rings, ends = polygons
-        self.assertEqual(len(rings), 3)
-        self.assertEqual(i_shape.polygon_validity(
-            points.astype(np.int32), rings, ends)["kind"].tolist(),
-            [Fault.CONTACT])
+        points, *offsets = io.from_shapely([repaired]).polygons
+        self.assertEqual(len(offsets[0]), 3)
+        for touching, kind in ((False, Fault.CONTACT), (True, Fault.VALID)):
+            self.assertEqual(i_shape.polygon_validity(
+                points.astype(np.int32), *offsets,
+                touching=touching)["kind"].tolist(), [kind])
 
 
 if __name__ == "__main__":

@@ -117,6 +117,9 @@ def _parser() -> argparse.ArgumentParser:
                         help="print what was removed and what collapsed, and"
                         " the areas before and after, or which features went"
                         " and which they equal")
+    parser.add_argument("--touching", action="store_true",
+                        help="check: rings may touch at single points, as for"
+                        " OGC, shapely and PostGIS")
     parser.add_argument("--to", metavar="FILE", type=_json,
                         help="check: write points of the faults to a file of"
                         " GeoJSON, in the coordinates of IN, with the fid of"
@@ -156,6 +159,8 @@ def _fault(options: argparse.Namespace) -> Optional[str]:
         return _check_fault(options)
     if options.to:
         return "--to is for check"
+    if options.touching:
+        return "--touching is for check"
     if not options.out:
         return "the following arguments are required: OUT"
     given, out = map(files.format_of, (options.given, options.out))
@@ -235,7 +240,7 @@ def _check(options: argparse.Namespace) -> Told:
             options.given, options.others, options.layer))
         beside = options.to and last.enter_context(
             files.replacing(options.to))
-        told = check.run(pair, options.grid, beside)
+        told = check.run(pair, options.grid, options.touching, beside)
         _print(told.lines, False)
     return told
 

@@ -328,12 +328,19 @@ class Fault(enum.IntEnum):
     TOO_FEW_POINTS
         A ring has fewer than three points, or all its points are equal.
     CONTACT
-        Two edges are in contact, as of :func:`first_contact_of_rings`.
+        Two edges are in contact, as of :func:`first_contact_of_rings`. Where
+        rings may touch: they are of one ring, cross or overlap.
     HOLE_OUTSIDE
         A hole has a vertex about which the winding number of the outer ring
-        is 0.
+        is 0. Where rings may touch: it has such a point, anywhere on its
+        edges, that isn't on the outer ring.
     HOLE_WITHIN
-        A hole has a vertex about which that of another hole isn't 0.
+        A hole has a vertex about which that of another hole isn't 0. Where
+        rings may touch: it has such a point, anywhere on its edges, that
+        isn't on the other hole.
+    DISCONNECTED
+        Only where rings may touch: two edges touch, and close a circle of
+        rings that touch at other points too, which parts the inside.
     """
 
     VALID = 0
@@ -341,6 +348,7 @@ class Fault(enum.IntEnum):
     CONTACT = 2
     HOLE_OUTSIDE = 3
     HOLE_WITHIN = 4
+    DISCONNECTED = 5
 
 
 # What the library writes of a polygon.
@@ -350,20 +358,26 @@ _FAULT = np.dtype([("kind", np.intp), ("first", np.intp),
 
 def polygon_validity(points: npt.NDArray[Int], ring_offsets: npt.ArrayLike,
                      polygon_offsets: npt.ArrayLike, *,
+                     touching: bool = False,
                      threads: int = 1) -> npt.NDArray[Any]:
     """Return what is wrong with each polygon, if anything.
 
     A polygon is valid if no ring has fewer than three points or only equal
     ones, no two edges are in contact, each vertex of each hole is inside
     the outer ring, and none is inside another hole. Rings that touch at one
-    point are in contact, unlike by the rules of shapely and PostGIS.
-    Different polygons aren't compared.
+    point are in contact, unlike by the rules of shapely and PostGIS, unless
+    they may touch. Different polygons aren't compared.
 
     Parameters
     ----------
     points : array of shape (n, 2), int16, int32 or int64
     ring_offsets : array of shape (m + 1,), of whole numbers
     polygon_offsets : array of shape (p + 1,), of whole numbers
+    touching : bool
+        True lets two rings of a polygon touch at single points, unless that
+        parts the inside: valid are those polygons that are valid by OGC's
+        rules, as for shapely and PostGIS, and have no repeated points. A
+        ring that touches itself stays a fault.
     threads : int
         As for :func:`simplify_polygons`.
 
@@ -375,8 +389,8 @@ def polygon_validity(points: npt.NDArray[Int], ring_offsets: npt.ArrayLike,
         ``second`` are, of dtype intp,
 
         - for TOO_FEW_POINTS and HOLE_OUTSIDE: the index of the ring, and 0;
-        - for CONTACT: the indices in ``points`` of the points from which
-          the two edges lead;
+        - for CONTACT and DISCONNECTED: the indices in ``points`` of the
+          points from which the two edges lead;
         - for HOLE_WITHIN: the indices of that ring and of the other one;
         - for VALID: 0 and 0.
 
@@ -385,7 +399,9 @@ def polygon_validity(points: npt.NDArray[Int], ring_offsets: npt.ArrayLike,
     Raises
     ------
     OffsetsError, UnsafePointError, TypeError, ValueError, MemoryError
-        As :func:`simplify_polygons` does.
+        As :func:`simplify_polygons` does. With ``touching``, there may also
+        be no memory for the contacts of a polygon, as of
+        :func:`contacts_of_rings`.
 
     See also
     --------
@@ -405,21 +421,40 @@ def polygon_validity(points: npt.NDArray[Int], ring_offsets: npt.ArrayLike,
     [0, 3]
     >>> Fault(3).name, int(faults["first"][1])
     ('HOLE_OUTSIDE', 2)
+
+    A square with a hole that touches its upper edge, and one with a hole
+    that also touches its lower edge, and so parts the inside.
+
+    >>> points = np.array([(0, 0), (9, 0), (9, 9), (0, 9),
+    ...                    (2, 2), (4, 9), (6, 2),
+    ...                    (0, 0), (9, 0), (9, 9), (0, 9),
+    ...                    (2, 2), (4, 9), (6, 0)])
+    >>> polygons = points, [0, 4, 7, 11, 14], [0, 2, 4]
+    >>> polygon_validity(*polygons)["kind"].tolist()
+    [2, 2]
+    >>> polygon_validity(*polygons, touching=True).tolist()
+    [(0, 0, 0), (5, 7, 12)]
+    >>> Fault(5).name
+    'DISCONNECTED'
     """
     return find_faults(given_polygons(points, ring_offsets, polygon_offsets),
-                       threads)
+                       touching, threads)
 
 
-def find_faults(given: GivenPolygons, threads: Any) -> npt.NDArray[np.void]:
-    """The first fault of each polygon."""
+def find_faults(given: GivenPolygons, touching: bool,
+                threads: Any) -> npt.NDArray[np.void]:
+    """The first fault of each polygon, whose rings may touch or not."""
     (points, rings, before), polygons = given
+    calls = CALLS[points.itemsize]
+    call = (calls.touching_validity_shapes if touching
+            else calls.validity_shapes)
     parts = as_parts(threads, len(polygons) - 1)
     cuts = equal_cuts(rings[polygons], parts)
     faults = np.zeros(len(polygons) - 1, _FAULT)
 
     def test(part: int) -> int:
         start, end = cuts[part:part + 2]
-        return _test_polygons(points, rings, polygons[start:end + 1],
+        return _test_polygons(call, points, rings, polygons[start:end + 1],
                               faults[start:end])
 
     raise_codes(run_parts(test, parts), given.rings)
@@ -427,21 +462,27 @@ def find_faults(given: GivenPolygons, threads: Any) -> npt.NDArray[np.void]:
     return faults
 
 
-def _test_polygons(points: Array, rings: Array, polygons: Array,
+def _test_polygons(call: Any, points: Array, rings: Array, polygons: Array,
                    faults: Array) -> int:
     """Write the fault of each polygon of some offsets, and return a code."""
     first_ring, last_ring = int(polygons[0]), int(polygons[-1])
     rings, polygons = rings[first_ring:last_ring + 1], polygons - first_ring
     start, end = int(rings[0]), int(rings[-1])
     its, rings = points[start:end], rings - start
-    code: int = CALLS[points.itemsize].validity_shapes(
-        address(its), len(its), address(rings), len(rings), address(polygons),
-        len(polygons), address(faults), len(faults))
-    are_contacts = faults["kind"] == Fault.CONTACT
-    faults["first"][are_contacts] += start
-    faults["second"][are_contacts] += start
+    code: int = call(*words(its, rings, polygons, faults))
+    have_edges = name_edges(faults)
+    faults["first"][have_edges] += start
+    faults["second"][have_edges] += start
     _count_rings(faults, first_ring)
     return code
+
+
+def name_edges(faults: Array) -> npt.NDArray[np.bool_]:
+    """Which of the faults are of two edges."""
+    kinds = faults["kind"]
+    found: npt.NDArray[np.bool_] = (
+        (kinds == Fault.CONTACT) | (kinds == Fault.DISCONNECTED))
+    return found
 
 
 def _count_rings(faults: Array, before: int) -> None:

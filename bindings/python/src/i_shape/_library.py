@@ -108,6 +108,7 @@ class Calls(NamedTuple):
     contacts_of_rings: Any
     kinds_of_contacts: Any
     validity_shapes: Any
+    touching_validity_shapes: Any
     area_two: Any
     areas: Any
     area: Any
@@ -175,6 +176,9 @@ def _calls(bits: int, number: Any, area: Any) -> Calls:
                                 ctypes.c_int32, *array * 2),
         validity_shapes=_call(f"i_shape_validity_shapes_i{bits}",
                               ctypes.c_int32, *array * 4),
+        touching_validity_shapes=_call(
+            f"i_shape_touching_validity_shapes_i{bits}", ctypes.c_int32,
+            *array * 4),
         area_two=_call(f"i_shape_area_two_i{bits}", ctypes.c_bool, *array,
                        ctypes.POINTER(area)),
         areas=_call(f"i_shape_area_two_contours_i{bits}", ctypes.c_int32,

@@ -32,10 +32,11 @@ def _write(points: list[dict[str, Any]], frame: tuple[str, str],
     to.write_text(f"{head}{lines}{tail}", encoding="utf-8")
 
 
-def run(pair: Pair, grid: Grid, to: Optional[Path]) -> Told:
+def run(pair: Pair, grid: Grid, touching: bool, to: Optional[Path]) -> Told:
     """Return a line for each feature that isn't valid.
 
-    If there is a path, the points of their faults are written to it.
+    Rings may touch or not. If there is a path, the points of the faults are
+    written to it.
     """
     count = 0
     lines: list[str] = []
@@ -44,7 +45,7 @@ def run(pair: Pair, grid: Grid, to: Optional[Path]) -> Told:
         with block.naming():
             whole = rounded_features(block.features, grid)
         count += len(whole.are_multi)
-        faults = faults_of(block.features, whole, grid)
+        faults = faults_of(block.features, whole, grid, touching)
         for record, fault in zip(block.polygon_records, faults):
             if fault is not None:
                 lines.append(f"{record.place}: {fault}")

@@ -7,7 +7,7 @@ from typing import Any, Iterable, Tuple
 import numpy as np
 import numpy.typing as npt
 
-from .._contacts import Fault, edges_of
+from .._contacts import edges_of, name_edges
 from ._features import Checked, rings_of
 from ._grid import Grid, brought_back
 
@@ -41,8 +41,8 @@ def _shared(ends: Iterable[Iterable[int]]) -> list[_Pair]:
 
 def meetings(whole: Checked, faults: npt.NDArray[Any],
              grid: Grid) -> dict[int, Tuple[Coordinates, ...]]:
-    """Of each polygon whose fault is a contact, where the edges meet."""
-    places = np.flatnonzero(faults["kind"] == Fault.CONTACT)
+    """Of each polygon whose fault is of two edges, where these meet."""
+    places = np.flatnonzero(name_edges(faults))
     pairs = np.stack([faults["first"], faults["second"]], axis=1)[places]
     edges = edges_of(rings_of(whole), pairs).reshape(-1, 4, 2).tolist()
     found: dict[int, Tuple[Coordinates, ...]] = {}

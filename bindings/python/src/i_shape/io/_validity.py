@@ -32,22 +32,26 @@ class FeatureFault:
         Index of the polygon in the feature.
     ring : int
         Index of the ring in the polygon; the outer one is 0. For
-        ``Fault.CONTACT`` it has the first of the two edges.
+        ``Fault.CONTACT`` and ``Fault.DISCONNECTED`` it has the first of the
+        two edges.
     other : int or None
-        Index of the other ring: the hole around this one, or that of the
-        second edge, which may be the same ring. None for other kinds.
+        Index of the other ring: for ``Fault.HOLE_WITHIN`` the hole around
+        this one, or that of the second edge, which may be the same ring.
+        None for other kinds.
     edges : tuple of two int, or None
-        For ``Fault.CONTACT``, of each edge the index in its ring of the
-        point from which it leads. None for other kinds.
+        For ``Fault.CONTACT`` and ``Fault.DISCONNECTED``, of each edge the
+        index in its ring of the point from which it leads. None for other
+        kinds.
     points : tuple of (x, y)
-        Where it is. For ``Fault.CONTACT``, of the edges on the grid: the
-        point at which they cross or touch, or the two ends of what they
-        share, in the coordinates of the features, each number rounded to a
-        float. Else the first point of the ring, as given, or nothing where
-        it has none.
+        Where it is. For ``Fault.CONTACT`` and ``Fault.DISCONNECTED``, of
+        the edges on the grid: the point at which they cross or touch, or
+        the two ends of what they share, in the coordinates of the features,
+        each number rounded to a float. Else the first point of the ring, as
+        given, or nothing where it has none; of a hole that touches other
+        rings it may be where nothing is wrong.
     starts : tuple of (x, y)
-        For ``Fault.CONTACT``, the points from which the two edges lead, as
-        given. Empty for other kinds.
+        For ``Fault.CONTACT`` and ``Fault.DISCONNECTED``, the points from
+        which the two edges lead, as given. Empty for other kinds.
     """
 
     kind: Fault
@@ -67,8 +71,11 @@ class FeatureFault:
         if self.edges:
             first, second = self.edges
             ring = "" if self.other == self.ring else f" of ring {self.other}"
-            return (f"edge {first} from {places[0]} meets edge {second}{ring}"
-                    f" from {places[1]}")
+            meets, then = (
+                ("touches", ", which parts the inside")
+                if self.kind == Fault.DISCONNECTED else ("meets", ""))
+            return (f"edge {first} from {places[0]} {meets} edge"
+                    f" {second}{ring} from {places[1]}{then}")
         at = f", at {places[0]}" if places else ""
         if self.kind == Fault.TOO_FEW_POINTS:
             return f"it has fewer than three points, or only equal ones{at}"
@@ -91,11 +98,11 @@ def _row(features: Features, row: int) -> _Row:
     return _Row(place.ring, place.point, (x, y))
 
 
-def _contact(features: Features, polygon: int, first: int, second: int,
-             points: Tuple[Coordinates, ...]) -> FeatureFault:
+def _of_edges(features: Features, polygon: int, kind: Fault, first: int,
+              second: int, points: Tuple[Coordinates, ...]) -> FeatureFault:
     """The fault of two edges, which lead from these rows."""
     one, other = _row(features, first), _row(features, second)
-    return FeatureFault(Fault.CONTACT, polygon, one.ring, other.ring,
+    return FeatureFault(kind, polygon, one.ring, other.ring,
                         (one.point, other.point), points,
                         (one.coordinates, other.coordinates))
 
@@ -111,12 +118,12 @@ def _of_ring(features: Features, polygon: int, kind: Fault, first: int,
                         None, tuple((x, y) for x, y in points.tolist()))
 
 
-def faults_of(given: Checked, whole: Checked, grid: Grid,
+def faults_of(given: Checked, whole: Checked, grid: Grid, touching: bool,
               threads: int = 1) -> list[Optional[FeatureFault]]:
     """The first fault of each feature, which the grid has as ``whole``."""
     faults = find_faults(
         GivenPolygons(rings_of(whole), whole.polygons.polygon_offsets),
-        threads)
+        touching, threads)
     met = meetings(whole, faults, grid)
     found: list[Optional[FeatureFault]] = [None] * len(whole.are_multi)
     for place in np.flatnonzero(faults["kind"])[::-1].tolist():
@@ -125,20 +132,19 @@ def faults_of(given: Checked, whole: Checked, grid: Grid,
         feature = int(np.searchsorted(whole.feature_offsets, place,
                                       side="right")) - 1
         polygon = place - int(whole.feature_offsets[feature])
-        found[feature] = (
-            _contact(given, polygon, first, second, met[place])
-            if kind == Fault.CONTACT
-            else _of_ring(given, polygon, Fault(kind), first, second))
+        its = given, polygon, Fault(kind), first, second
+        found[feature] = (_of_edges(*its, met[place]) if place in met
+                          else _of_ring(*its))
     return found
 
 
-def _explained(features: Checked, grid: Grid,
+def _explained(features: Checked, grid: Grid, touching: bool,
                threads: int) -> list[Optional[FeatureFault]]:
     return faults_of(features, rounded_features(features, grid), grid,
-                     threads)
+                     touching, threads)
 
 
-def _explained_series(series: Any, grid: Grid, others: str,
+def _explained_series(series: Any, grid: Grid, touching: bool, others: str,
                       threads: int) -> Any:
     require_series(series)
     import pandas
@@ -146,7 +152,8 @@ def _explained_series(series: Any, grid: Grid, others: str,
     places = polygon_places(geometries, others)
     faults: list[Optional[FeatureFault]] = [None] * len(geometries)
     with naming(places):
-        found = _explained(read_geometries(geometries[places]), grid, threads)
+        found = _explained(read_geometries(geometries[places]), grid,
+                           touching, threads)
     for place, fault in zip(places.tolist(), found):
         faults[place] = fault
     return pandas.Series(faults, index=series.index, dtype=object,
@@ -154,7 +161,8 @@ def _explained_series(series: Any, grid: Grid, others: str,
 
 
 def explain_validity(features: Any, step: Union[float, Grid], *,
-                     others: str = "raise", threads: int = 1) -> Any:
+                     touching: bool = False, others: str = "raise",
+                     threads: int = 1) -> Any:
     """Return of each feature the first fault of its polygons.
 
     They are rounded onto a grid, and tested there by
@@ -169,6 +177,9 @@ def explain_validity(features: Any, step: Union[float, Grid], *,
         How far neighbours on the grid are apart, in the unit of the
         coordinates, or the grid. With 1, whole numbers stay as they are,
         up to 2**53.
+    touching : bool
+        True lets two rings of a polygon touch at single points, as for
+        :func:`i_shape.polygon_validity`.
     others : "raise" or "keep"
         What becomes of a geometry of a series that is no Polygon or
         MultiPolygon, or has three coordinates a point: an error, or None.
@@ -201,10 +212,18 @@ def explain_validity(features: Any, step: Union[float, Grid], *,
     ...     print(fault)
     None
     polygon 0, ring 0: edge 0 from (0, 0) meets edge 2 from (4.5, 0)
+
+    A hole that touches the outer ring once, and one that does so twice.
+
+    >>> given = from_wkt(["POLYGON ((0 0, 4 0, 0 4, 0 0), (0 0, 2 1, 1 2))",
+    ...                   "POLYGON ((0 0, 4 0, 0 4, 0 0), (0 0, 2 1, 2 2))"])
+    >>> faults = explain_validity(given, step=1, touching=True)
+    >>> faults[0], faults[1].kind.name, faults[1].points
+    (None, 'DISCONNECTED', ((2.0, 2.0),))
     """
     grid = step if isinstance(step, Grid) else Grid(step)
     if not isinstance(features, tuple):
-        return _explained_series(features, grid, others, threads)
+        return _explained_series(features, grid, touching, others, threads)
     if others != "raise":
         raise ValueError("others is for a GeoSeries")
-    return _explained(as_features(features), grid, threads)
+    return _explained(as_features(features), grid, touching, threads)
