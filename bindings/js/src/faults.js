@@ -7,6 +7,7 @@ const KINDS = [
     { kind: "contact", places: ["first", "second"] },
     { kind: "holeOutside", places: ["ring"] },
     { kind: "holeWithin", places: ["ring", "other"] },
+    { kind: "disconnected", places: ["first", "second"] },
 ];
 
 /** Returns the faults by what the library writes of each, three numbers: its code and two places. */

@@ -219,7 +219,7 @@ export function keysOfFeatures(shapes, object, options) {
 
 /** The fault of a polygon of a feature, with rings counted within the polygon and edges within their ring. `starts` are where the polygon's rings begin. */
 function placedFault({ kind, ring, other, first, second }, polygon, firstRing, starts) {
-    if (kind === "contact") {
+    if (first !== undefined) {
         const rings = [first, second].map((point) => starts.findLastIndex((start) => start <= point));
         return { kind, polygon, ring: rings[0], other: rings[1], edges: [first - starts[rings[0]], second - starts[rings[1]]] };
     }
@@ -227,9 +227,9 @@ function placedFault({ kind, ring, other, first, second }, polygon, firstRing, s
 }
 
 export function faultsOfFeatures(shapes, object, options) {
-    const { step } = checkedOptions("explainValidity", options, ["step"]);
+    const { step, touching = false } = checkedOptions("explainValidity", options, ["step", "touching"]);
     const { features, points, ringOffsets, polygonOffsets, places } = griddedFeatures("explainValidity", object, step);
-    const faults = shapes.polygonValidity(points, ringOffsets, polygonOffsets);
+    const faults = shapes.polygonValidity(points, ringOffsets, polygonOffsets, { touching });
     return features.map((_, k) => {
         const polygon = faults.slice(places[k], places[k + 1]).findIndex(({ kind }) => kind !== "valid");
         if (polygon < 0) return { kind: "valid" };

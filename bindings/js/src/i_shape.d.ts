@@ -147,21 +147,23 @@ export type ContactKind =
 export type Validity =
     | { kind: "valid" }
     | { kind: "tooFewPoints"; ring: number }
-    /** Two edges are in contact, each by the place of the point from which it leads. */
+    /** Two edges are in contact, each by the place of the point from which it leads; where rings may touch, edges that are of one ring, cross or overlap. */
     | ({ kind: "contact" } & Contact)
-    /** A vertex of the hole `ring` is outside the outer ring. */
+    /** A vertex of the hole `ring` is outside the outer ring; where rings may touch, any point of its edges. */
     | { kind: "holeOutside"; ring: number }
-    /** A vertex of the hole `ring` is within another hole, `other`. */
-    | { kind: "holeWithin"; ring: number; other: number };
+    /** A vertex of the hole `ring` is within another hole, `other`; where rings may touch, any point of its edges. */
+    | { kind: "holeWithin"; ring: number; other: number }
+    /** Only where rings may touch: two edges touch, and close a circle of rings that touch at other points too, which parts the inside. */
+    | ({ kind: "disconnected" } & Contact);
 
 /**
  * The first fault of a feature, or `"valid"`: that of the first of its polygons that has one. `polygon` counts within the feature, `ring` and `other` within the
- * polygon. Of a contact, `ring` and `other` have the two `edges`, each by the index in its ring of the position from which it leads.
+ * polygon. Of two edges, `ring` and `other` have the two `edges`, each by the index in its ring of the position from which it leads.
  */
 export type FeatureValidity =
     | { kind: "valid" }
     | { kind: "tooFewPoints" | "holeOutside"; polygon: number; ring: number }
-    | { kind: "contact"; polygon: number; ring: number; other: number; edges: [number, number] }
+    | { kind: "contact" | "disconnected"; polygon: number; ring: number; other: number; edges: [number, number] }
     /** The hole `ring` is within the hole `other`. */
     | { kind: "holeWithin"; polygon: number; ring: number; other: number };
 
@@ -254,12 +256,14 @@ export interface IShape {
     /**
      * Of each polygon whether it is valid, or its first fault. It is valid if each ring has enough points, no two edges are in contact, each vertex of each hole is
      * inside the outer ring, and none is inside another hole. Rings that touch at one point are in contact, unlike by the rules of JSTS and PostGIS. Different
-     * polygons aren't compared.
+     * polygons aren't compared. With `touching` two rings may touch at single points, unless that parts the inside: valid are the polygons that are so by OGC's
+     * rules, but for repeated points, which stay faults.
      * @throws {OffsetsError} tested before whether points are safe
      * @throws {UnsafePointError} of rings that no polygon has, too
-     * @throws {OutOfMemoryError}
+     * @throws {OutOfMemoryError} with `touching` also where there is no room for the contacts of a polygon
+     * @throws {TypeError} there is an option of another name
      */
-    polygonValidity(points: Points, ringOffsets: Offsets, polygonOffsets: Offsets): Validity[];
+    polygonValidity(points: Points, ringOffsets: Offsets, polygonOffsets: Offsets, options?: { touching?: boolean }): Validity[];
 
     /** Whether each point is safe, as all calls but `isSafe`, `isSafeRings`, `areaTwo`, `areaTwoRings` and `areaTwoPolygons` ask. */
     isSafe(points: Points): boolean;
@@ -374,8 +378,8 @@ export interface IShape {
      */
     featureKeys(object: object, options: { step: number; oriented?: boolean }): string[];
 
-    /** Of each such feature what `polygonValidity` finds first. It throws as `featureKeys` does. */
-    explainValidity(object: object, options: { step: number }): FeatureValidity[];
+    /** Of each such feature what `polygonValidity` finds first, with its option. It throws as `featureKeys` does. */
+    explainValidity(object: object, options: { step: number; touching?: boolean }): FeatureValidity[];
 
     /** The sum of what `areaTwo` returns of the rings of each polygon, which wraps as it does: a hole counts against an outer ring that turns the other way. */
     areaTwoPolygons(points: Points, ringOffsets: Offsets, polygonOffsets: Offsets): bigint[];

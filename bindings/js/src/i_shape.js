@@ -213,7 +213,8 @@ class IShape {
         });
     }
 
-    polygonValidity(points, ringOffsets, polygonOffsets) {
+    polygonValidity(points, ringOffsets, polygonOffsets, options = {}) {
+        const { touching = false } = checkedOptions("polygonValidity", options, ["touching"]);
         const kind = kindOf(points);
         const rings = asOffsets(ringOffsets, "ringOffsets");
         const polygons = asOffsets(polygonOffsets, "polygonOffsets");
@@ -221,7 +222,8 @@ class IShape {
             const count = Math.max(polygons.length - 1, 0);
             const given = new Given(loan, points, kind, rings, polygons);
             const out = loan.take(12 * count);
-            this.#answered(this.#call("validity_shapes", kind)(...given.words, out, count), given);
+            const call = this.#call(touching ? "touching_validity_shapes" : "validity_shapes", kind);
+            this.#answered(call(...given.words, out, count), given);
             return faultsOf(loan.read(Uint32Array, out, 3 * count));
         });
     }

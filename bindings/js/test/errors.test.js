@@ -31,6 +31,7 @@ describeWidths((shapes, { points, number, limit, bits, Points }) => {
     const calls = [
         ...[...RINGS, ...RING_TESTS].map((name) => ({ name, call: (from, offsets) => shapes[name](from, offsets) })),
         ...[...POLYGONS, "canonicalKeys"].map((name) => ({ name, call: (from, offsets) => shapes[name](from, offsets, [0]) })),
+        { name: "polygonValidity, touching", call: (from, offsets) => shapes.polygonValidity(from, offsets, [0], { touching: true }) },
         ...ABOUT_MANY.map((name) => ({ name, call: (from, offsets) => shapes[name](from, offsets, points([])) })),
         { name: "locateInPolygons", call: (from, offsets) => shapes.locateInPolygons(from, offsets, [0], points([])) },
     ];
@@ -62,6 +63,7 @@ describeWidths((shapes, { points, number, limit, bits, Points }) => {
     }
     const byPolygons = [
         ...[...POLYGONS, ...BY_RINGS].map((name) => ({ name, call: (offsets) => shapes[name](square, [0, 1, 2, 3, 4], offsets) })),
+        { name: "polygonValidity, touching", call: (offsets) => shapes.polygonValidity(square, [0, 1, 2, 3, 4], offsets, { touching: true }) },
         { name: "locateInPolygons", call: (offsets) => shapes.locateInPolygons(square, [0, 1, 2, 3, 4], offsets, square) },
     ];
     for (const { name, call } of byPolygons) {

@@ -249,6 +249,22 @@ describe("features", async () => {
         assert.deepEqual(shapes.explainValidity({ type: "Polygon", coordinates: [square] }, { step: 1 }), [{ kind: "valid" }]);
     });
 
+    test("faults of features whose rings may touch", () => {
+        const once = [[0, 4], [2, 5], [2, 3]];
+        const twice = [[0, 4], [8.2, 4], [2, 3]];
+        const given = collection(
+            { type: "Polygon", coordinates: [square, once] }, polygons([square, hole], [square, once, twice]), polygons([square, once], [square, hole, twice]),
+            { type: "Polygon", coordinates: [square, [[8, 4], [9, 4], [9, 5]]] }, { type: "Polygon", coordinates: [square, [[1, 1], [5, 1], [1, 5]], hole] });
+        assert.deepEqual(shapes.explainValidity(given, { step: 0.5, touching: true }), [
+            { kind: "valid" }, { kind: "contact", polygon: 1, ring: 1, other: 2, edges: [1, 0] },
+            { kind: "disconnected", polygon: 1, ring: 0, other: 2, edges: [1, 0] }, { kind: "holeOutside", polygon: 0, ring: 1 },
+            { kind: "contact", polygon: 0, ring: 1, other: 2, edges: [0, 0] },
+        ]);
+        const strict = shapes.explainValidity(given, { step: 0.5 });
+        assert.deepEqual(strict[0], { kind: "contact", polygon: 0, ring: 0, other: 1, edges: [3, 0] });
+        assert.deepEqual(shapes.explainValidity(given, { step: 0.5, touching: false }), strict);
+    });
+
     test("what isn't polygons, or has no step, is an error", () => {
         for (const call of [shapes.featureKeys, shapes.explainValidity]) {
             assert.throws(() => call(collection(polygons([square]), { type: "Point", coordinates: [0, 0] }), { step: 1 }), { name: "GeoJsonError", feature: 1 });

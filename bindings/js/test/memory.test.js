@@ -15,6 +15,8 @@ const POLYGONS = Array.from({ length: RINGS / 3 + 1 }, (_, k) => 3 * k);
 function callsOf(shapes, { points, number }) {
     const contour = points(RING);
     const rings = points(Array.from({ length: RINGS }, () => RING).flat());
+    // a triangle with a hole that touches it twice, and a ring whose edges overlap
+    const touching = points([0, 0, 4, 0, 0, 4, /**/ 0, 0, 2, 1, 2, 2, /**/ 0, 0, 4, 0, 2, 0]);
     const calls = {};
     for (const name of ["simplify", "despike", "canonical", "canonicalUnoriented", "isSimple", "hasNoSpikes", "isConvex", "isSafe", "areaTwo"]) {
         calls[name] = () => shapes[name](contour);
@@ -28,6 +30,8 @@ function callsOf(shapes, { points, number }) {
     }
     for (const name of ["contacts", "contactsOfRings"]) calls[name] = () => shapes[name](contour, [0, 3, 8]);
     calls.kindsOfContacts = () => shapes.kindsOfContacts(contour, [0, 3, 8], [{ first: 2, second: 7 }]);
+    calls.polygonValidity = () => shapes.polygonValidity(rings, OFFSETS, POLYGONS);
+    calls["polygonValidity, touching"] = () => shapes.polygonValidity(touching, [0, 3, 6, 9], [0, 2, 3], { touching: true });
     calls.locateInPolygons = () => shapes.locateInPolygons(rings, OFFSETS, POLYGONS, rings);
     calls.compactPolygons = () => shapes.compactPolygons(OFFSETS, POLYGONS);
     return calls;
@@ -146,6 +150,7 @@ describe("memory", async () => {
             contacts: (it) => it.contacts(overlapping),
             contactsOfRings: (it) => it.contactsOfRings(overlapping, [500, 1000]),
             kindsOfContacts: (it) => it.kindsOfContacts(contour, [0, count], Array(count).fill({ first: 0, second: 9 })),
+            "polygonValidity, touching": (it) => it.polygonValidity(overlapping, [0, 500, 1000], [0, 1, 2], { touching: true }),
         })) {
             test(`${name} at ${width.bits} bits: a failed allocation is an error, and nothing is held`, async () => {
                 const wanted = call(shapes);

@@ -56,10 +56,25 @@ const FAULTS = [
     { rings: [[]], fault: { kind: "tooFewPoints", ring: 0 } },
 ];
 
-/** The polygons of FAULTS end to end, and their faults by the places in all of them. */
-function allFaults() {
+// The same where rings may touch.
+const TO_VERTEX = [0, 0, 1, 2, 2, 1];
+const TOUCHING = [
+    { rings: [], fault: { kind: "valid" } },
+    { rings: [SQUARE, TO_VERTEX], fault: { kind: "valid" } },
+    { rings: [WIDE, [-4, 0, 0, 0, 0, -2], [0, 0, 2, 2, 3, 1], [2, 2, 0, 4, 2, 4]], fault: { kind: "valid" } },
+    { rings: [SQUARE, [1, 1, 2, 2]], fault: { kind: "tooFewPoints", ring: 1 } },
+    { rings: [SQUARE, TO_VERTEX, [1, 1, 3, 1, 3, 3]], fault: { kind: "contact", first: 5, second: 9 } },
+    { rings: [[...SQUARE, ...TO_VERTEX]], fault: { kind: "contact", first: 0, second: 3 } },
+    { rings: [SQUARE, TO_VERTEX, [4, 2, 6, 1, 6, 3]], fault: { kind: "holeOutside", ring: 2 } },
+    { rings: [WIDE, [-8, 8, -7, 0, -2, -8], LEFT_PART], fault: { kind: "holeWithin", ring: 1, other: 2 } },
+    { rings: [SQUARE, [0, 0, 2, 4, 2, 1]], fault: { kind: "disconnected", first: 2, second: 4 } },
+    { rings: [WIDE, [-4, 0, 0, 0, 0, -2], [0, 0, 2, 2, 3, 1], [2, 2, 0, 4, 2, 4], [0, 4, -4, 4, -4, 0]], fault: { kind: "disconnected", first: 7, second: 10 } },
+];
+
+/** Such polygons end to end, and their faults by the places in all of them. */
+function allFaults(polygons) {
     const all = { points: [], ringOffsets: [0], polygonOffsets: [0], faults: [] };
-    for (const { rings, fault } of FAULTS) {
+    for (const { rings, fault } of polygons) {
         const before = { ring: all.ringOffsets.length - 1, other: all.ringOffsets.length - 1, first: all.ringOffsets.at(-1), second: all.ringOffsets.at(-1) };
         all.faults.push(Object.fromEntries(Object.entries(fault).map(([name, place]) => [name, name === "kind" ? place : before[name] + place])));
         for (const ring of rings) {
@@ -192,13 +207,38 @@ describeWidths((shapes, { points }) => {
         assert.deepEqual(shapes.compactPolygons(far, [0, 1, 3]), { polygons: Uint32Array.of(1), rings: Uint32Array.of(1, 2), offsets: Uint32Array.of(0, 2) });
         assert.equal(shapes.heldBytes, 0);
     });
-    test("polygonValidity: a polygon of each fault", () => {
-        const { points: coordinates, ringOffsets, polygonOffsets, faults } = allFaults();
-        const from = points(coordinates);
-        assert.deepEqual(shapes.polygonValidity(from, ringOffsets, polygonOffsets), faults);
-        assert.deepEqual(shapes.polygonValidity(from, ringOffsets, polygonOffsets.slice(2, 5)), faults.slice(2, 4));
-        assert.deepEqual(shapes.polygonValidity(from, ringOffsets, [0]), []);
-        assert.equal(shapes.heldBytes, 0);
+    for (const [polygons, ...options] of [[FAULTS], [FAULTS, { touching: false }], [TOUCHING, { touching: true }]]) {
+        test(`polygonValidity: a polygon of each fault${options.length ? `, touching ${options[0].touching}` : ""}`, () => {
+            const { points: coordinates, ringOffsets, polygonOffsets, faults } = allFaults(polygons);
+            const from = points(coordinates);
+            assert.deepEqual(shapes.polygonValidity(from, ringOffsets, polygonOffsets, ...options), faults);
+            assert.deepEqual(shapes.polygonValidity(from, ringOffsets, polygonOffsets.slice(2, 5), ...options), faults.slice(2, 4));
+            assert.deepEqual(shapes.polygonValidity(from, ringOffsets, [0], ...options), []);
+            assert.equal(shapes.heldBytes, 0);
+        });
+    }
+    test("polygonValidity: where rings may touch, only contacts are other faults, or none", () => {
+        let valid = 0;
+        for (let seed = 1; seed <= 300; seed++) {
+            const polygons = randomPolygons(seed).map((holes) => [[[0, 0], [8, 0], [8, 8], [0, 8]], ...holes]);
+            const rings = polygons.flat();
+            const given = [
+                points(rings.flat(2)),
+                [0, ...rings.map((_, k) => rings.slice(0, k + 1).flat().length)],
+                [0, ...polygons.map((_, k) => polygons.slice(0, k + 1).flat().length)],
+            ];
+            const strict = shapes.polygonValidity(...given);
+            shapes.polygonValidity(...given, { touching: true }).forEach((fault, k) => {
+                if (strict[k].kind !== "contact") assert.deepEqual(fault, strict[k]);
+                else if (fault.kind === "valid") valid++;
+            });
+        }
+        assert.ok(valid > 0);
+    });
+    test("polygonValidity: options of another name or type", () => {
+        const ask = (options) => () => shapes.polygonValidity(points(SQUARE), [0, 4], [0, 1], options);
+        assert.throws(ask({ touch: true }), { name: "TypeError", message: "polygonValidity has no option touch: its options are touching" });
+        for (const options of [null, true, "touching"]) assert.throws(ask(options), TypeError);
     });
     for (const { call, ...left } of LEFT) {
         const wanted = {

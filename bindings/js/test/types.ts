@@ -46,7 +46,8 @@ async function keys(): Promise<void> {
     const id: number = feature.id;
     const ofFeatures: string[] = shapes.featureKeys(feature, { step: 0.5, oriented: true });
     const faults: FeatureValidity[] = shapes.explainValidity(feature, { step: 0.5 });
-    for (const fault of faults) if (fault.kind === "contact") console.log(fault.polygon, fault.edges[1]);
+    faults.push(...shapes.explainValidity(feature, { step: 0.5, touching: true }));
+    for (const fault of faults) if (fault.kind === "contact" || fault.kind === "disconnected") console.log(fault.polygon, fault.edges[1]);
     console.log(id, ofFeatures);
     // @ts-expect-error: no step
     fromGeoJson({});
@@ -67,6 +68,12 @@ async function rings(shapes: IShape): Promise<void> {
     const polygons: Polygons<Int32Array> = shapes.canonicalPolygons(left.points, left.offsets, BigInt64Array.of(0n, 1n));
     const faults: Validity[] = shapes.polygonValidity(polygons.points, polygons.ringOffsets, polygons.polygonOffsets);
     for (const fault of faults) if (fault.kind === "holeWithin") console.log(fault.ring, fault.other);
+    const touching: Validity[] = shapes.polygonValidity(polygons.points, polygons.ringOffsets, polygons.polygonOffsets, { touching: true });
+    for (const fault of touching) if (fault.kind === "disconnected") console.log(fault.first, fault.second);
+    // @ts-expect-error: no such option
+    shapes.polygonValidity(points, [0, 1], [0, 1], { touches: true });
+    // @ts-expect-error: places of rings, where edges are at fault
+    touching.filter((fault) => fault.kind === "disconnected").map((fault) => fault.ring);
     // @ts-expect-error: a valid polygon has no ring at fault
     faults.filter((fault) => fault.kind === "valid").map((fault) => fault.ring);
     const contacts: Contact[] = [...shapes.contacts(points), ...shapes.contactsOfRings(points, [0, 1])];
