@@ -34,6 +34,10 @@ _OTHERS_HELP = (
     " MultiPolygon of two coordinates a point.")
 _STAYS_HELP = " One without a geometry stays, unless others are dropped."
 _UNTESTED_HELP = " With keep and with drop it isn't tested."
+_TOUCHING_HELP = (
+    "Rings may touch: two rings of a polygon may touch at single points, as"
+    " by the rules of OGC and of PostGIS, unless that parts the inside. A"
+    " ring that touches itself and a repeated point stay faults.")
 _COLLAPSED_HELP = (
     "Collapsed: what becomes of a feature of which nothing is left, as where"
     " the step is in another unit than the coordinates.")
@@ -393,6 +397,11 @@ class Validity(_Algorithm):
             " fault: for two edges the points at which they meet, or else the"
             " first point of the ring.")
     OTHERS_HELP = _OTHERS_HELP + _UNTESTED_HELP
+    HELP_OF_MORE = _TOUCHING_HELP
+
+    def more_parameters(self):
+        return (QgsProcessingParameterBoolean(
+            "TOUCHING", "Rings may touch", False),)
 
     def initAlgorithm(self, config=None):
         super().initAlgorithm(config)
@@ -409,6 +418,8 @@ class Validity(_Algorithm):
 
     def prepare(self, parameters, context, grid):
         self._grid = grid
+        self._is_touching = self.parameterAsBool(
+            parameters, "TOUCHING", context)
         self._count = self._invalid = 0
         self._fields = QgsFields()
         for name, its in (("fid", QVariant.LongLong),
@@ -419,7 +430,8 @@ class Validity(_Algorithm):
 
     def work(self, block):
         from i_shape.io import explain_validity, from_wkb
-        faults = explain_validity(from_wkb(block.blobs), self._grid)
+        faults = explain_validity(from_wkb(block.blobs), self._grid,
+                                  touching=self._is_touching)
         found = [self._feature(block.fid(place), fault)
                  for place, fault in enumerate(faults) if fault is not None]
         self._count += len(faults)

@@ -32,6 +32,14 @@ TESTED = {
     9: ([[SQUARE, [[9, 9], [10, 9], [9, 10], [9, 9]]]], ["hole outside", 0, 1]),
     12: ([[SQUARE, TRIANGLE, WITHIN], [THIN]], ["hole within", 0, 2]),
 }
+# The same where rings may touch.
+TESTED_TOUCHING = {
+    2: ([[SQUARE, [[0, 0], [5, 1], [1, 5], [0, 0]]]], None),
+    4: ([[SQUARE, [[8.1, 2], [1, 1], [1, 3], [8.1, 2]], TRIANGLE]], ["contact", 0, 1]),
+    5: ([[SQUARE], [SQUARE, [[0, 2], [8.1, 2], [1, 1], [0, 2]]]], ["disconnected", 1, 0]),
+    7: ([[SQUARE, [[8, 2], [9, 2], [9, 3], [8, 2]]]], ["hole outside", 0, 1]),
+    8: ([[SQUARE, TRIANGLE, [[1, 1], [3, 2], [2, 3], [1, 1]]]], ["hole within", 0, 2]),
+}
 
 
 def ring(numbers):
@@ -159,9 +167,9 @@ class QgisTest(unittest.TestCase):
         self.assertEqual(self.rows(self.qgis(call, given, f"qgis_{call}.gpkg", *choices)), expected)
         return expected[1]
 
-    def faults(self, given, step):
+    def faults(self, given, step, *words):
         """The faults that the command writes of a layer."""
-        status, told = ask(sys.executable, "-m", "i_shape", "check", given, "--step", step, "--to", self.work / "faults.geojson")
+        status, told = ask(sys.executable, "-m", "i_shape", "check", given, "--step", step, "--to", self.work / "faults.geojson", *words)
         self.assertEqual(status, 1, told)
         return written_faults(self.work / "faults.geojson"), told
 
@@ -269,18 +277,20 @@ class QgisTest(unittest.TestCase):
 
     def test_validity(self):
         """One feature for each that the command prints, with the reason and points that it prints and writes."""
-        given = self.package([feature(fid, "MultiPolygon", its) for fid, (its, _) in TESTED.items()])
-        out = self.work / "out.gpkg"
-        status, told = self.ask_qgis("validity", given, out, "STEP=0.5")
-        self.assertEqual(status, 0, told)
-        self.assertIn("6 of 7 features invalid", told)
-        self.assertIn("INVALID:\t6", told)
-        system, rows = self.rows(out, "kind, polygon, ring, reason")
-        self.assertEqual(system, "EPSG:25833")
-        self.assertEqual({fid: its for fid, *its, _, _ in rows}, {fid: fault for fid, (_, fault) in TESTED.items() if fault})
-        faults, told = self.faults(given, "0.5")
-        self.assertEqual({fid: (reason, points_of(wkb)) for fid, *_, reason, wkb in rows}, faults)
-        self.assertEqual([f"layer 'parcels', fid {fid}: {reason}" for fid, *_, reason, _ in rows], told.splitlines()[:-1])
+        for tested, words, choices in ((TESTED, (), ()), (TESTED_TOUCHING, ["--touching"], ["TOUCHING=true"])):
+            with self.subTest(choices=choices):
+                given = self.package([feature(fid, "MultiPolygon", its) for fid, (its, _) in tested.items()], f"given{len(words)}.gpkg")
+                out = self.work / f"out{len(words)}.gpkg"
+                status, told = self.ask_qgis("validity", given, out, "STEP=0.5", *choices)
+                self.assertEqual(status, 0, told)
+                self.assertIn(f"{len(tested) - 1} of {len(tested)} features invalid", told)
+                self.assertIn(f"INVALID:\t{len(tested) - 1}", told)
+                system, rows = self.rows(out, "kind, polygon, ring, reason")
+                self.assertEqual(system, "EPSG:25833")
+                self.assertEqual({fid: its for fid, *its, _, _ in rows}, {fid: fault for fid, (_, fault) in tested.items() if fault})
+                faults, told = self.faults(given, "0.5", *words)
+                self.assertEqual({fid: (reason, points_of(wkb)) for fid, *_, reason, wkb in rows}, faults)
+                self.assertEqual([f"layer 'parcels', fid {fid}: {reason}" for fid, *_, reason, _ in rows], told.splitlines()[:-1])
 
     def test_validity_of_others(self):
         """They are an error or aren't tested. None is lost, since none is written."""
