@@ -13,5 +13,6 @@ const LEFT_OUT: [&str; 8] = [
 ];
 
 fn main() {
-    erase::build_all(&["i_shape_c", "i_shape_contacts"], &LEFT_OUT);
+    let crates = ["i_shape_c", "i_shape_contacts", "i_shape_touching"];
+    erase::build_all(&crates, &LEFT_OUT);
 }

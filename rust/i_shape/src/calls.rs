@@ -20,7 +20,8 @@ use crate::erased::i_shape_core::area::UnsafeArea;
 use crate::erased::i_shape_core::cleaner::ContourCleaner;
 use crate::erased::i_shape_core::fill_rule as proved_rule;
 use crate::erased::i_shape_core::point::{self as proved, ContourPoint};
-use crate::int::contacts::{Contact, ContactKind, Validity};
+use crate::erased::i_shape_touching as touches;
+use crate::int::contacts::{Contact, ContactKind, TouchingValidity, Validity};
 use crate::int::{IntNumber, IntPoint, WideIntNumber};
 use crate::memory::{copied, made_of_each, try_filled};
 use crate::{Error, FillRule, Location};
@@ -491,6 +492,36 @@ pub(crate) fn validity_of<I: IntNumber>(
         edges::Validity::Contact(found) => Validity::Contact(contact_behind(before, found)),
         edges::Validity::HoleOutside { contour } => Validity::HoleOutside { contour },
         edges::Validity::HoleWithin { contour, other } => Validity::HoleWithin { contour, other },
+    })
+}
+
+/// The same of a polygon whose contours may touch at single points.
+pub(crate) fn touching_validity_of<I: IntNumber>(
+    points: &[IntPoint<I>],
+    offsets: &[usize],
+    before: usize,
+) -> Result<TouchingValidity, Error> {
+    debug_assert!(edges::do_divide(offsets, points.len()));
+    check_safe(points).map_err(|error| error.behind(before))?;
+    let found =
+        touches::touching_validity_of(Global, points, offsets).map_err(|_| Error::NoMemory)?;
+    Ok(match found {
+        touches::TouchingValidity::Valid => TouchingValidity::Valid,
+        touches::TouchingValidity::TooFewPoints { contour } => {
+            TouchingValidity::TooFewPoints { contour }
+        }
+        touches::TouchingValidity::Contact(found) => {
+            TouchingValidity::Contact(contact_behind(before, found))
+        }
+        touches::TouchingValidity::HoleOutside { contour } => {
+            TouchingValidity::HoleOutside { contour }
+        }
+        touches::TouchingValidity::HoleWithin { contour, other } => {
+            TouchingValidity::HoleWithin { contour, other }
+        }
+        touches::TouchingValidity::Disconnected(found) => {
+            TouchingValidity::Disconnected(contact_behind(before, found))
+        }
     })
 }
 

@@ -11,7 +11,7 @@ use i_shape::FillRule;
 use i_shape::flat::{Contours, OwnedContours, OwnedShapes, Shapes, offsets};
 use i_shape::int::IntPoint;
 use i_shape::int::canonical::{CanonicalShape, CanonicalShapes};
-use i_shape::int::contacts::{Contact, ContourContacts, ShapeValidity, Validity};
+use i_shape::int::contacts::{Contact, ContourContacts, ShapeValidity, TouchingValidity, Validity};
 use i_shape::int::despike::{DeSpike, DeSpikeContour, DeSpikeShape, DeSpikeShapes};
 use i_shape::int::path::ContourExtension;
 use i_shape::int::simple::{ContourSimplifier, SimpleContour, SimpleShape, SimpleShapes, Simplify};
@@ -168,6 +168,11 @@ fn shapes_and_lists<I: Number>() {
     // of a copy of the points, and of one of the offsets
     assert_eq!(growths(|| given[1].try_validity()), 2);
     assert_eq!(growths(|| given[1].try_is_valid()), 2);
+    // the same if contours may touch, but where edges are in contact
+    assert_eq!(growths(|| given[0][2..].try_touching_validity()), 2);
+    let touching = shapes::<I>(&[&[&SQUARE, &[[0, 2], [3, 2], [2, 3]]]]);
+    assert_eq!(growths(|| touching[0].try_touching_validity()), 8);
+    assert_eq!(growths(|| touching[0].try_is_valid_with_touches()), 8);
     assert_eq!(growths(|| given[0].try_winding_number(about[0])), 0);
     assert_eq!(growths(|| given.try_is_simple()), 0);
     assert_eq!(growths(|| given.try_has_no_spikes()), 0);
@@ -217,6 +222,38 @@ fn contacts_are_the_same_without_memory() {
 }
 
 #[test]
+fn faults_with_touches_are_the_same_or_an_error() {
+    let walk = shared::walk_round::<i32>(50);
+    let hole = [[0, 2], [3, 2], [2, 3]].map(point);
+    let across = [[0, 2], [50, 2], [2, 3]].map(point);
+    let polygons = [
+        vec![walk.clone(), hole.to_vec()],
+        vec![walk, across.to_vec()],
+    ];
+    let touch = Contact {
+        first: 51,
+        second: 200,
+    };
+    let wanted = [
+        TouchingValidity::Valid,
+        TouchingValidity::Disconnected(touch),
+    ];
+    for (polygon, wanted) in polygons.into_iter().zip(wanted) {
+        let mut found = Vec::new();
+        for granted in 0..40 {
+            GRANTED.set(granted);
+            let answer = polygon.try_touching_validity();
+            GRANTED.set(usize::MAX);
+            assert!(answer == Ok(wanted) || answer == Err(Error::NoMemory));
+            found.push(answer.is_ok());
+        }
+        // of the copy; of boxes, without which it finds the same; of the contacts
+        assert_eq!(found[..5], [false, false, true, true, false]);
+        assert_eq!(found.last(), Some(&true));
+    }
+}
+
+#[test]
 fn holders_are_the_same_without_memory() {
     let rings = [&SQUARE[..], &STRAIGHT, &SPIKED].map(contour::<i32>);
     let flat = OwnedContours::from_contours(&rings);
@@ -246,6 +283,7 @@ fn holders_are_the_same_without_memory() {
 #[test]
 fn other_forms_panic_with_the_text() {
     let given = contour::<i32>(&STRAIGHT);
+    let polygon = [given.clone()];
     let panics = |call: &dyn Fn()| {
         GRANTED.set(0);
         let panic = catch_unwind(AssertUnwindSafe(call));
@@ -266,6 +304,9 @@ fn other_forms_panic_with_the_text() {
     assert!(panics(&|| drop(
         Shapes::new(&given, &[0, 5], &[0, 1]).first_contacts()
     )));
+    assert!(panics(&|| {
+        let _ = polygon.touching_validity();
+    }));
 }
 
 fn batches<I: Number>() {
@@ -311,6 +352,8 @@ fn batches<I: Number>() {
     // the answer, and the offsets of each polygon behind the first point
     assert_eq!(growths(|| polygons.try_first_contacts()), 2);
     assert_eq!(growths(|| polygons.try_validity()), 2);
+    // these have contacts, which it lists
+    assert_eq!(growths(|| polygons.try_touching_validity()), 3);
     let owned = polygons.simplified();
     assert_eq!(growths(|| owned.try_to_shapes()), 4);
 

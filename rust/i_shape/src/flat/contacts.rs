@@ -6,10 +6,10 @@ use crate::Error;
 use crate::both_forms::both_forms;
 use crate::calls::{
     contacts_of_many, first_contact_of_many, kind_of_contact_of_many, kinds_of_contacts_of_many,
-    validity_of,
+    touching_validity_of, validity_of,
 };
 use crate::int::IntNumber;
-use crate::int::contacts::{Contact, ContactKind, Validity};
+use crate::int::contacts::{Contact, ContactKind, TouchingValidity, Validity};
 use crate::memory::made_of_each;
 use alloc::vec::Vec;
 
@@ -138,6 +138,37 @@ impl<I: IntNumber> Shapes<'_, I> {
                 let before = polygon.offsets[0];
                 let rebased = try_rebased(polygon.offsets)?;
                 let found = validity_of(&polygon.points[before..], &rebased, before)?;
+                Ok(found.behind(contour))
+            })
+        }
+
+        /// Returns of each polygon, in order, the first
+        /// [fault](crate::int::contacts::TouchingValidity) if its contours may touch at single points,
+        /// or `Valid`. Its indices are those of [`validity`](Shapes::validity).
+        ///
+        /// ```
+        /// use i_shape::flat::Shapes;
+        /// use i_shape::int::AsIntPoints;
+        /// use i_shape::int::contacts::TouchingValidity;
+        ///
+        /// // a square, and in it a hole that touches it from within; the same from outside
+        /// let square = [[0_i32, 0], [4, 0], [4, 4], [0, 4]];
+        /// let (within, outside) = ([[4, 1], [2, 2], [2, 1]], [[4, 1], [6, 2], [6, 1]]);
+        /// let points = [&square[..], &within, &square, &outside].concat();
+        /// let polygons = Shapes::new(points.as_int_points(), &[0, 4, 7, 11, 14], &[0, 2, 4]);
+        /// assert_eq!(
+        ///     polygons.touching_validity(),
+        ///     [TouchingValidity::Valid, TouchingValidity::HoleOutside { contour: 3 }]
+        /// );
+        /// ```
+        touching_validity, must_use;
+        /// Returns [`Error::UnsafePoint`] if a point of a polygon isn't safe, [`Error::NoMemory`] if
+        /// there is none for the result, for a copy of a polygon's offsets, or for the contacts of one.
+        pub fn try_touching_validity(self) -> Result<Vec<TouchingValidity>, Error> {
+            made_of_each(self.iter().zip(self.shapes()), |(polygon, &contour)| {
+                let before = polygon.offsets[0];
+                let rebased = try_rebased(polygon.offsets)?;
+                let found = touching_validity_of(&polygon.points[before..], &rebased, before)?;
                 Ok(found.behind(contour))
             })
         }

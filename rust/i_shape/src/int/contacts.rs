@@ -50,6 +50,29 @@
 //! assert_eq!(polygon.validity(), Validity::HoleOutside { contour: 1 });
 //! assert!(polygon[..1].is_valid());
 //! ```
+//!
+//! By OGC's rules, contours of a polygon may touch. A polygon is *valid with touches* if none of its
+//! contours is degenerate; edges in contact are of two contours and touch, that is, share one point
+//! and don't cross; no point of a hole's edges lies outside the outer contour, and none inside another
+//! hole; and no touches part the inside: two contours that touch are joined at no other point, nor by
+//! way of other contours. Unlike by OGC's rules, a contour with a repeated point isn't valid.
+//! `touching_validity` of a shape returns the first fault, and
+//! [`Shapes::touching_validity`](crate::flat::Shapes::touching_validity) that of each of many.
+//!
+//! ```
+//! use i_shape::int::contacts::{Contact, ShapeValidity, TouchingValidity};
+//! use i_shape::int_shape;
+//!
+//! // a hole that touches the left edge of a square
+//! let polygon = int_shape![[[0_i32, 0], [4, 0], [4, 4], [0, 4]], [[0, 2], [3, 2], [2, 3]]];
+//! assert!(!polygon.is_valid());
+//! assert_eq!(polygon.touching_validity(), TouchingValidity::Valid);
+//!
+//! // a hole that also touches the right edge, and so parts the inside
+//! let parted = int_shape![[[0_i32, 0], [4, 0], [4, 4], [0, 4]], [[0, 2], [4, 2], [2, 3]]];
+//! let touch = Contact { first: 1, second: 4 };
+//! assert_eq!(parted.touching_validity(), TouchingValidity::Disconnected(touch));
+//! ```
 
 use super::shape::IntContour;
 use super::{IntNumber, IntPoint};
@@ -163,6 +186,66 @@ impl Validity {
     }
 }
 
+/// What is wrong with a polygon whose contours may touch at single points, if anything. The call that
+/// returns it says what the indices of contours and edges count.
+#[derive(Clone, Copy, Debug, PartialEq, Eq, Hash)]
+pub enum TouchingValidity {
+    /// Nothing is wrong.
+    Valid,
+    /// A contour has fewer than three points, or all its points are equal.
+    TooFewPoints {
+        /// The index of that contour.
+        contour: usize,
+    },
+    /// Two edges are in contact, of one contour, or of two and they cross or overlap.
+    Contact(Contact),
+    /// A point of a hole's edges isn't on the outer contour, and the winding number of that about it is
+    /// 0.
+    HoleOutside {
+        /// The index of that hole among the contours.
+        contour: usize,
+    },
+    /// A point of a hole's edges isn't on another hole, and the winding number of that about it isn't
+    /// 0.
+    HoleWithin {
+        /// The index of that hole among the contours.
+        contour: usize,
+        /// That of the other hole.
+        other: usize,
+    },
+    /// Two edges of two contours touch, and these contours are also joined at points before that, by x
+    /// and then by y, directly or by way of others: together they part the inside.
+    Disconnected(Contact),
+}
+
+impl TouchingValidity {
+    /// Returns whether nothing is wrong.
+    #[must_use]
+    pub fn is_valid(self) -> bool {
+        self == TouchingValidity::Valid
+    }
+
+    /// Returns the same fault for a list with `count` contours before these.
+    pub(crate) fn behind(self, count: usize) -> Self {
+        let shifted = |contour| count + contour;
+        match self {
+            TouchingValidity::TooFewPoints { contour } => TouchingValidity::TooFewPoints {
+                contour: shifted(contour),
+            },
+            TouchingValidity::HoleOutside { contour } => TouchingValidity::HoleOutside {
+                contour: shifted(contour),
+            },
+            TouchingValidity::HoleWithin { contour, other } => TouchingValidity::HoleWithin {
+                contour: shifted(contour),
+                other: shifted(other),
+            },
+            TouchingValidity::Valid
+            | TouchingValidity::Contact(_)
+            | TouchingValidity::Disconnected(_) => self,
+        }
+    }
+}
+
 /// The contacts of a contour, and the test for a simple polygon.
 pub trait ContourContacts<I: IntNumber> {
     both_forms! {
@@ -233,7 +316,7 @@ impl<I: IntNumber> ContourContacts<I> for [IntPoint<I>] {
     }
 }
 
-/// Whether a polygon is [valid](self), and its first fault.
+/// Whether a polygon is [valid](self), also if its contours may touch, and its first fault.
 ///
 /// These calls copy the contours.
 pub trait ShapeValidity<I: IntNumber> {
@@ -259,6 +342,28 @@ pub trait ShapeValidity<I: IntNumber> {
         fn try_is_valid(&self) -> Result<bool, Error> {
             Ok(self.try_validity()?.is_valid())
         }
+
+        /// Returns the first fault if contours may touch at single points, or
+        /// [`TouchingValidity::Valid`]. Faults come in this order: the first contour that is
+        /// degenerate; the first contact of edges that are of one contour, cross or overlap; the first
+        /// hole with a point outside the outer contour; the first hole with a point inside another,
+        /// with the first such other; and of the touches that part the inside, that at the least
+        /// point, by x and then by y, and there the first. A shape without contours is valid.
+        ///
+        /// Its indices are those of [`validity`](ShapeValidity::validity), and without a contact the
+        /// fault and the time are the same. With contacts it lists them, and also takes time
+        /// proportional to the number of holes and contacts times that of the points.
+        touching_validity, must_use;
+        /// Returns [`Error::UnsafePoint`] if a point isn't safe, [`Error::NoMemory`] if the copy
+        /// fails, or if edges are in contact and an allocation for the contacts fails.
+        fn try_touching_validity(&self) -> Result<TouchingValidity, Error>;
+
+        /// Returns whether the polygon is valid if its contours may touch at single points.
+        is_valid_with_touches, must_use;
+        /// Returns the errors of [`try_touching_validity`](ShapeValidity::try_touching_validity).
+        fn try_is_valid_with_touches(&self) -> Result<bool, Error> {
+            Ok(self.try_touching_validity()?.is_valid())
+        }
     }
 }
 
@@ -266,5 +371,10 @@ impl<I: IntNumber> ShapeValidity<I> for [IntContour<I>] {
     fn try_validity(&self) -> Result<Validity, Error> {
         let contours = OwnedContours::try_from_contours(self)?;
         calls::validity_of(contours.points(), contours.offsets(), 0)
+    }
+
+    fn try_touching_validity(&self) -> Result<TouchingValidity, Error> {
+        let contours = OwnedContours::try_from_contours(self)?;
+        calls::touching_validity_of(contours.points(), contours.offsets(), 0)
     }
 }

@@ -24,30 +24,30 @@ at_each_width!(
 
 /// What two segments share: a point is its numerators and their denominator.
 #[derive(PartialEq)]
-enum Shared {
+pub enum Shared {
     Nothing,
     One([i64; 3]),
     Many,
 }
 
-type Segment = [[i64; 2]; 2];
+pub type Segment = [[i64; 2]; 2];
 
-fn cross([ax, ay]: [i64; 2], [bx, by]: [i64; 2]) -> i64 {
+pub fn cross([ax, ay]: [i64; 2], [bx, by]: [i64; 2]) -> i64 {
     ax * by - ay * bx
 }
 
-fn way([ax, ay]: [i64; 2], [bx, by]: [i64; 2]) -> [i64; 2] {
+pub fn way([ax, ay]: [i64; 2], [bx, by]: [i64; 2]) -> [i64; 2] {
     [bx - ax, by - ay]
 }
 
-fn is_on([px, py]: [i64; 2], [a, b]: Segment) -> bool {
+pub fn is_on([px, py]: [i64; 2], [a, b]: Segment) -> bool {
     let is_between = |p: i64, a: i64, b: i64| a.min(b) <= p && p <= a.max(b);
     cross(way(a, b), way(a, [px, py])) == 0
         && is_between(px, a[0], b[0])
         && is_between(py, a[1], b[1])
 }
 
-fn shared([a, b]: Segment, [c, e]: Segment) -> Shared {
+pub fn shared([a, b]: Segment, [c, e]: Segment) -> Shared {
     let (one, other) = (way(a, b), way(c, e));
     let divisor = cross(one, other);
     if divisor == 0 {
@@ -78,7 +78,7 @@ fn are_equal([x, y, divisor]: [i64; 3], [px, py]: [i64; 2]) -> bool {
 }
 
 /// Two edges in contact, and the kind of the contact.
-type Kind = ([usize; 2], ContactKind);
+pub type Kind = ([usize; 2], ContactKind);
 
 /// The kind of the contact of two edges, by the place of the point from which each leads.
 fn kind(places: &[Place], first: usize, second: usize) -> Option<ContactKind> {
@@ -104,7 +104,7 @@ fn kind_at(shared: [i64; 3], ends: [Segment; 2]) -> ContactKind {
 }
 
 /// All contacts and their kinds.
-fn kinds(places: &[Place]) -> Vec<Kind> {
+pub fn kinds(places: &[Place]) -> Vec<Kind> {
     (0..places.len())
         .flat_map(|first| (first + 1..places.len()).map(move |second| [first, second]))
         .filter_map(|[first, second]| Some(([first, second], kind(places, first, second)?)))

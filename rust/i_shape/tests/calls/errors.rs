@@ -5,7 +5,7 @@ use i_shape::flat::{Contours, OwnedShapes, Shapes};
 use i_shape::int::IntPoint;
 use i_shape::int::area::Area;
 use i_shape::int::canonical::{CanonicalShape, CanonicalShapes};
-use i_shape::int::contacts::{Contact, ContourContacts};
+use i_shape::int::contacts::{Contact, ContourContacts, ShapeValidity};
 use i_shape::int::despike::{DeSpike, DeSpikeContour, DeSpikeShape, DeSpikeShapes};
 use i_shape::int::path::ContourExtension;
 use i_shape::int::shape::{IntContour, IntShape};
@@ -151,6 +151,15 @@ fn shapes_with_an_unsafe_point<I: Number>() {
     has_error!(error, shape, try_despiked_shape, despiked_shape);
     has_error!(error, shape, try_canonical, canonical);
     has_error!(error, shape, try_canonical_unoriented, canonical_unoriented);
+    has_error!(error, shape, try_validity, validity);
+    has_error!(error, shape, try_is_valid, is_valid);
+    has_error!(error, shape, try_touching_validity, touching_validity);
+    has_error!(
+        error,
+        shape,
+        try_is_valid_with_touches,
+        is_valid_with_touches
+    );
     let inside = point([1, 1]);
     has_error!(error, shape, try_winding_number, winding_number, inside);
     has_error!(
@@ -240,8 +249,10 @@ fn batches_with_an_unsafe_point<I: Number>() {
             FillRule::EvenOdd
         );
     }
-    has_error!(error, behind, try_validity, validity);
-    has_error!(error, apart, try_validity, validity);
+    for polygons in [behind, apart] {
+        has_error!(error, polygons, try_validity, validity);
+        has_error!(error, polygons, try_touching_validity, touching_validity);
+    }
     let contours = Contours::new(&points, &[0, 5]);
     has_error!(error, contours, try_simplified, simplified);
     has_error!(error, contours, try_first_contact, first_contact);

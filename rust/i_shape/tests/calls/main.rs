@@ -11,3 +11,4 @@ mod original_names;
 mod own_points;
 mod shapes;
 mod shared;
+mod touching;
