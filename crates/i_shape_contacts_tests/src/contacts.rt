@@ -196,15 +196,6 @@ fn of_rings(
     ])
 }
 
-/// These offsets.
-fn offsets(alloc: Global, text: &str) -> Result<Vec<usize>, Fail> {
-    let mut offsets = Vec::new(alloc);
-    for word in text.split_whitespace() {
-        offsets.push(word.parse::<usize>()?)?;
-    }
-    Ok(offsets)
-}
-
 /// Points, the offsets that divide them into rings, and the first contact.
 const RINGS: [(&str, &str, Option<[usize; 2]>); 21] = [
     ("", "0", None),
@@ -235,7 +226,7 @@ fn first_contacts_of_rings(rt: HostRuntime) -> Result<(), Fail> {
     for (list, parts, wanted) in &RINGS {
         let row = Row::new(rt.alloc(), *list);
         let given = texts::contour(row.alloc, *list)?;
-        let parts = offsets(row.alloc, *parts)?;
+        let parts = texts::offsets(row.alloc, *parts)?;
         let found = of_rings(&row, given.as_slice(), parts.as_slice())?;
         row.equal(found, [*wanted, *wanted], "the first contact")?;
     }
@@ -327,7 +318,7 @@ fn first_faults_of_polygons(rt: HostRuntime) -> Result<(), Fail> {
     for (list, parts, wanted) in &POLYGONS {
         let row = Row::new(rt.alloc(), *list);
         let given = texts::contour(row.alloc, *list)?;
-        let parts = offsets(row.alloc, *parts)?;
+        let parts = texts::offsets(row.alloc, *parts)?;
         let (points, parts) = (given.as_slice(), parts.as_slice());
         row.holds(points.is_in_safe_range(), "safe points")?;
         row.holds(do_divide(parts, points.len()), "rings")?;
@@ -385,7 +376,7 @@ const PARTS: [(&str, usize, bool); 9] = [
 fn offsets_divide_points_or_do_not(rt: HostRuntime) -> Result<(), Fail> {
     for (parts, count, wanted) in &PARTS {
         let row = Row::new(rt.alloc(), *parts);
-        let parts = offsets(row.alloc, *parts)?;
+        let parts = texts::offsets(row.alloc, *parts)?;
         row.equal(do_divide(parts.as_slice(), *count), *wanted, "divide")?;
     }
     Ok(())

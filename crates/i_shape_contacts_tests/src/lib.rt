@@ -1,5 +1,7 @@
-//! Tests of contacts.
+//! Tests of contacts, and of polygons whose rings may touch.
 #![tactic(auto)]
 
 #[cfg(test)]
 mod contacts;
+#[cfg(test)]
+mod touching;

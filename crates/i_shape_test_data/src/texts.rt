@@ -28,6 +28,15 @@ pub fn points(alloc: Global, text: &str) -> Result<Vec<[i32; 2]>, Fail> {
     Ok(points)
 }
 
+/// These offsets.
+pub fn offsets(alloc: Global, text: &str) -> Result<Vec<usize>, Fail> {
+    let mut offsets = Vec::new(alloc);
+    for word in text.split_whitespace() {
+        offsets.push(word.parse::<usize>()?)?;
+    }
+    Ok(offsets)
+}
+
 /// The contour of these points. Fails if one isn't safe.
 pub fn contour(alloc: Global, text: &str) -> Result<IntContour<i32>, Fail>
     ensures { IfOk result (λ c. IsSafeContour w32 (contour_of (λ z. z) c.items)) }

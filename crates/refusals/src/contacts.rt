@@ -1,12 +1,14 @@
 //! Contacts of edges, by calls that can do without memory.
 
 use crate::given::{SQUARE, points, safe};
-use crate::told::{answered, begun, spared};
+use crate::told::{answered, begun, call, ended, spared};
+use i_shape::ShapeError;
 use i_shape::int::IntPoint;
 use i_shape_contacts::{
     Contact, contacts, contacts_of_rings, do_divide, first_contact, first_contact_of_rings,
     is_simple_polygon, validity_of,
 };
+use i_shape_touching::touching_validity_of;
 
 /// Steps, of which the last edge touches one before it.
 const STEPS: [IntPoint<i32>; 18] = points![
@@ -67,6 +69,32 @@ fn meetings_of_a_contour(rt: HostRuntime) {
     spared!(rt, "first_contact of few points" => first_contact(alloc, few));
     let mut out = BLANK;
     spared!(rt, "contacts" => contacts(alloc, points, out.as_mut_slice()));
+}
+
+/// A square, and a hole that touches it.
+const TOUCHING: [IntPoint<i32>; 7] = points![
+    [0, 0],
+    [8, 0],
+    [8, 8],
+    [0, 8],
+    [0, 4],
+    [2, 3],
+    [2, 5]
+];
+
+#[test]
+fn rings_that_touch(rt: HostRuntime) {
+    let alloc = rt.alloc();
+    let points = safe(&rt, TOUCHING.as_slice());
+    let offsets = [0, 4, TOUCHING.len()];
+    let offsets = offsets.as_slice();
+    assert!(rt; do_divide(offsets, points.len()), "offsets");
+    call!(rt, "touching_validity_of" => touching_validity_of(alloc, points, offsets).or(Err(ShapeError::OutOfMemory)));
+    let points = safe(&rt, &TOUCHING[..4]);
+    let offsets = [0, 4];
+    let offsets = offsets.as_slice();
+    assert!(rt; do_divide(offsets, points.len()), "offsets");
+    call!(rt, "touching_validity_of a square" => touching_validity_of(alloc, points, offsets).or(Err(ShapeError::OutOfMemory)));
 }
 
 /// Rings of a point each.
