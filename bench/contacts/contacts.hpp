@@ -46,6 +46,7 @@ struct Notion {
 };
 
 Notion our_notion();
+Notion our_touching_notion(); // rings may touch one another
 Notion geos_notion();
 Notion touching_geos_notion(); // a ring may touch itself and so form a hole
 Notion boost_notion();

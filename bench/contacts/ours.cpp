@@ -78,12 +78,12 @@ template <class Bits> Call is_simple_polygon(const Drawing &drawing) {
     }
 }
 
-std::string fault(const std::vector<Ring> &polygon) {
-    static const char *const kinds[] = {"", "too few points", "contact", "hole outside", "hole within"};
+template <auto find_faults> std::string fault(const std::vector<Ring> &polygon) {
+    static const char *const kinds[] = {"", "too few points", "contact", "hole outside", "hole within", "disconnected"};
     auto [points, offsets] = Given<Bits32>(polygon);
     std::size_t shapes[] = {0, polygon.size()};
     i_shape_fault fault;
-    checked(i_shape_validity_shapes_i32(points.data(), points.size(), offsets.data(), offsets.size(), shapes, 2, &fault, 1));
+    checked(find_faults(points.data(), points.size(), offsets.data(), offsets.size(), shapes, 2, &fault, 1));
     return kinds[fault.kind];
 }
 
@@ -96,4 +96,6 @@ std::vector<Column> our_columns() {
             {"is_simple_polygon i64", is_simple_polygon<Bits64>}};
 }
 
-Notion our_notion() { return {"i_shape", fault}; }
+Notion our_notion() { return {"i_shape", fault<i_shape_validity_shapes_i32>}; }
+
+Notion our_touching_notion() { return {"i_shape, touching", fault<i_shape_touching_validity_shapes_i32>}; }
