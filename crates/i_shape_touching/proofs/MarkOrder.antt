@@ -10,20 +10,24 @@ use Rattle.i_shape_touching.specs.Steps.Pieces.{MarkOf, mark_of, IsOrdered}
 use Rattle.i_shape_touching.specs.declared.marks.Mark.{Mark}
 
 -- ---- one comparison
+-- what a comparison of two parts tells, of which the first is of unsigned numbers
 nat_part : (s t : Bool) (rest : Ordering) → is_lt (ordering_then (cond s Less (cond t Equal Greater)) rest) ≡ false → (s ≡ false) × ((t ≡ false) ⊎ (is_lt rest ≡ false))
 nat_part true t rest e = absurd (cc)
 nat_part false true rest e = (refl, inr e)
 nat_part false false rest e = (refl, inl refl)
 
+-- the same, where the first is of integers
 int_part : (s t : Bool) (rest : Ordering) → is_lt (ordering_then (cond s Less (cond t Greater Equal)) rest) ≡ false → (s ≡ false) × ((t ≡ true) ⊎ (is_lt rest ≡ false))
 int_part true t rest e = absurd (cc)
 int_part false true rest e = (refl, inl refl)
 int_part false false rest e = (refl, inr e)
 
+-- and where it is the only part
 int_last : (s t : Bool) → is_lt (cond s Less (cond t Greater Equal)) ≡ false → s ≡ false
 int_last true t e = absurd (cc)
 int_last false t e = refl
 
+-- by the numbers
 nat_step : (x y : ℕ) (rest : Ordering) → is_lt (ordering_then (nat_cmp y x) rest) ≡ false → (x < y) ⊎ ((x ≡ y) × (is_lt rest ≡ false))
 nat_step x y rest e =
     let told = nat_part (ltb y x) (eqb y x) rest e in
@@ -38,6 +42,7 @@ nat_step x y rest e =
       ]
     ]
 
+-- by the integers
 int_step : (x y : ℤ) (rest : Ordering) → is_lt (ordering_then (int_cmp y x) rest) ≡ false → (x <ℤ y) ⊎ ((x ≡ y) × (is_lt rest ≡ false))
 int_step x y rest e = go (int_lt y x) (int_lt x y) refl refl (int_part (int_lt y x) (int_lt x y) rest e)
   where
@@ -49,6 +54,7 @@ int_step x y rest e = go (int_lt y x) (int_lt x y) refl refl (int_part (int_lt y
       | inr less ↦ inr (omega (arith, ints), less)
     ]
 
+-- by the last integers
 int_end : (x y : ℤ) → is_lt (int_cmp y x) ≡ false → (x <ℤ y) ⊎ (x ≡ y)
 int_end x y e = go (int_lt y x) (int_lt x y) refl refl (int_last (int_lt y x) (int_lt x y) e)
   where
@@ -71,16 +77,19 @@ told_order a b e = elim (nat_step a.edge b.edge _ e) [
 ]
 
 -- ---- the order of points and marks
+-- the order of points is transitive
 pub less_less : (p q r : Point) → IsLess p q → IsLess q r → IsLess p r
 less_less p q r (inl f) (inl g) = inl (omega (arith, ints))
 less_less p q r (inl f) (inr g) = let x = g.0 in inl (omega (arith, ints))
 less_less p q r (inr f) (inl g) = let x = f.0 in inl (omega (arith, ints))
 less_less p q r (inr f) (inr g) = let a = f.1 in let b = g.1 in inr (f.0 ∙ g.0, omega (arith, ints))
 
+-- no point is less than itself
 pub not_less_itself : (p : Point) → IsLess p p → ⊥
 not_less_itself p (inl f) = omega (arith, ints)
 not_less_itself p (inr f) = let a = f.1 in omega (arith, ints)
 
+-- the order of marks is transitive
 pub ordered_on : (a b d : MarkOf) → IsOrdered a b → IsOrdered b d → IsOrdered a d
 ordered_on a b d (inl f) (inl g) = inl (omega (arith, f, g))
 ordered_on a b d (inl f) (inr g) = let e = g.0 in inl (omega (arith, f, e))
@@ -108,6 +117,7 @@ pairs_of_neighbours R on xs near i (suc j) d h k =
       | inr l ↦ (let same : j ≡ i = omega (arith, h, l) in subst (λ (n : ℕ). R (get_or xs n d) (get_or xs (suc j) d)) same step)
     ]
 
+-- comparisons in turn are associative
 then_then : (u v w : Ordering) → ordering_then (ordering_then u v) w ≡ ordering_then u (ordering_then v w)
 then_then Less v w = refl
 then_then Equal v w = refl

@@ -48,9 +48,11 @@ read_at value point points each list k a p is within read =
     let item = item_read point points each list k a p is within read in
     ap (point_of value) item.1 ∙ sym (get_or-map (point_of value) (points list) k p origin item.0)
 
+-- what holds of two items holds of each item of their list
 all_two : {A : Type 0} (P : A → Type 0) (a b : A) → P a → P b → All P (a ∷ b ∷ [])
 all_two P a b f g = All-cons P a (b ∷ []) f (All-cons P b [] g (λ k d h. absurd (omega (arith, h))))
 
+-- and so it is for three items
 all_three : {A : Type 0} (P : A → Type 0) (a b c : A) → P a → P b → P c → All P (a ∷ b ∷ c ∷ [])
 all_three P a b c f g h = All-cons P a (b ∷ c ∷ []) f (all_two P b c g h)
 
@@ -58,9 +60,11 @@ all_three P a b c f g h = All-cons P a (b ∷ c ∷ []) f (all_two P b c g h)
 abbrev pub Keeps : {A : Type 0} → List A → List A → Type 0
 Keeps {A} old new = (m : A) → Contains old m → Contains new m
 
+-- appending loses nothing
 keeps_front : {A : Type 0} (old more new : List A) → new ≡ old ++ more → Keeps old new
 keeps_front old more new e m h = subst (λ (l : List _). Contains l m) (sym e) (Contains-append_left old more m h)
 
+-- what is appended is contained
 at_back : {A : Type 0} (old more new : List A) (m : A) → new ≡ old ++ more → Contains more m → Contains new m
 at_back old more new m e h = subst (λ (l : List _). Contains l m) (sym e) (Contains-append_right old more m h)
 
@@ -79,9 +83,11 @@ module _ (offsets : List ℕ) (c : List Point) where
     pub at_start : Contains marks (mark k (point_at c k))
     pub at_end : (m : ℕ) → IsAfter offsets k m → Contains marks (mark k (point_at c m))
 
+  -- marks for both ends stay where none is lost
   pub ends_kept : (k : ℕ) (old new : List MarkOf) → Keeps old new → HasEnds k old → HasEnds k new
   ends_kept k old new keeps h = record { at_start = keeps (mark k (point_at c k)) h.at_start; at_end = λ m f. keeps (mark k (point_at c m)) (h.at_end m f) }
 
+  -- the empty list has no other items
   pub none_only : Only []
   none_only = record { each = λ k d h. absurd (omega (arith, h)); listed = λ k d h. absurd (omega (arith, h)) }
 
@@ -89,6 +95,7 @@ module _ (offsets : List ℕ) (c : List Point) where
   pub adds_keep : (k : ℕ) (old new : List MarkOf) → AddsEnds offsets c k old new → Keeps old new
   adds_keep k old new a = keeps_front old _ new a.added
 
+  -- marks for both ends of an edge to look at are such items
   pub adds_only : (k : ℕ) (old new : List MarkOf) → AddsEnds offsets c k old new → k < length c → IsListed offsets c k → Only old → Only new
   adds_only k old new a within listed only = record {
     each = subst (All (λ m. IsMark offsets c m.edge m.point)) (sym a.added) (All-append (λ m. IsMark offsets c m.edge m.point) old _ only.each (all_two (λ m. IsMark offsets c m.edge m.point) (mark k (point_at c k)) (mark k (point_at c a.next)) (start within refl) (end a.next a.follows refl)));
@@ -99,6 +106,7 @@ module _ (offsets : List ℕ) (c : List Point) where
   pub touch_keeps : (k : ℕ) (p : Point) (old new : List MarkOf) → AddsTouch offsets c k p old new → Keeps old new
   touch_keeps k p old new a = keeps_front old _ new a.added
 
+  -- marks for an edge that shares a point are such items too
   pub touch_only : (k : ℕ) (p : Point) (old new : List MarkOf) → AddsTouch offsets c k p old new → k < length c → IsShared offsets c k p → Only old → Only new
   touch_only k p old new a within s only =
       let listed : IsListed offsets c k = inr (record { point = p; shared = s }) in
@@ -107,6 +115,7 @@ module _ (offsets : List ℕ) (c : List Point) where
         listed = subst (All (λ m. IsListed offsets c m.edge)) (sym a.added) (All-append (λ m. IsListed offsets c m.edge) old _ only.listed (all_three (λ m. IsListed offsets c m.edge) (mark k (point_at c k)) (mark k (point_at c a.next)) (mark k p) listed listed listed));
       }
 
+  -- the point itself is marked
   pub touch_point_in : (k : ℕ) (p : Point) (old new : List MarkOf) → AddsTouch offsets c k p old new → Contains new (mark k p)
   touch_point_in k p old new a = at_back old _ new (mark k p) a.added (2, omega arith, refl)
 
@@ -118,6 +127,7 @@ module _ (offsets : List ℕ) (c : List Point) where
       pub at_first : Contains marks (mark t.contact.first (point_of value t.point))
       pub at_second : Contains marks (mark t.contact.second (point_of value t.point))
 
+    -- marks for a touch stay where none is lost
     pub has_kept : (old new : List MarkOf) (t : Touch I) → Keeps old new → HasTouch old t → HasTouch new t
     has_kept old new t keeps h = record {
       first = ends_kept t.contact.first old new keeps h.first;
@@ -137,12 +147,14 @@ module _ (offsets : List ℕ) (c : List Point) where
           | inr enough ↦ omega (arith, count, within, enough)
         ]
 
+    -- both ends are marked
     pub adds_ends : (k : ℕ) (old new : List MarkOf) → AddsEnds offsets c k old new → HasEnds k new
     adds_ends k old new a = record {
       at_start = at_back old _ new _ a.added (0, omega arith, refl);
       at_end = λ m f. at_back old _ new _ a.added (1, omega arith, ap (λ (n : ℕ). mark k (point_at c n)) (sym (after_unique offsets k m a.next divides.divides f a.follows)));
     }
 
+    -- both ends of an edge that touches are marked
     pub touch_ends : (k : ℕ) (p : Point) (old new : List MarkOf) → AddsTouch offsets c k p old new → HasEnds k new
     touch_ends k p old new a = record {
       at_start = at_back old _ new _ a.added (0, omega arith, refl);
@@ -186,6 +198,7 @@ module _ (offsets : List ℕ) (c : List Point) where
         pub ends : (r : ℕ) → r + 1 < length offsets → HasEnds (offset offsets r) marks
         pub touched : All (HasTouch value marks) (take i touches)
 
+      -- both edges of one touch more are marked
       pub touch_marked : (touches : List (Touch I)) (i : ℕ) (t : Touch I) (old mid new : List MarkOf) → i < length touches → t ≡ get_or touches i t → IsTouch value offsets c t
           → AddsTouch offsets c t.contact.first (point_of value t.point) old mid → AddsTouch offsets c t.contact.second (point_of value t.point) mid new → Only old
           → ((r : ℕ) → r + 1 < length offsets → HasEnds (offset offsets r) old) → All (HasTouch value old) (take i touches) → Marked touches (i + 1) new
@@ -226,6 +239,7 @@ module _ (offsets : List ℕ) (c : List Point) where
             }
 
         module _ (marks : List MarkOf) (rings : (r : ℕ) → r + 1 < length offsets → HasEnds (offset offsets r) marks) (touched : All (HasTouch value marks) touches) where
+          -- both ends of an edge that shares a point are marked
           ends_of_shared : (k : ℕ) (p : Point) → IsShared offsets c k p → HasEnds k marks
           ends_of_shared k p s =
               let t = touch_for k p s in
@@ -235,6 +249,7 @@ module _ (offsets : List ℕ) (c : List Point) where
                 | inr e ↦ subst (λ (n : ℕ). HasEnds n marks) (sym e) has.second
               ]
 
+          -- both ends of each edge to look at are marked
           ends_of_listed : (k : ℕ) → IsListed offsets c k → HasEnds k marks
           ends_of_listed k (inl f) = subst (λ (n : ℕ). HasEnds n marks) (sym f.is_first) (rings f.ring f.is_ring)
           ends_of_listed k (inr s) = ends_of_shared k s.point s.shared

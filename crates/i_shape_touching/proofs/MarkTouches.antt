@@ -40,6 +40,7 @@ record OnBoth (p a b c e : Point) : Type 0 where
   first : IsOnSegment divisor (times_point divisor p) a b
   second : IsOnSegment divisor (times_point divisor p) c e
 
+-- two denominators have a common multiple
 on_both : (p a b c e : Point) → LiesOn (pos 1) p a b → LiesOn (pos 1) p c e → OnBoth p a b c e
 on_both p a b c e l m = record {
   divisor = m.factor *ℤ l.factor;
@@ -76,6 +77,7 @@ two_points p q a b c e f g differ =
           (same_by_factors m n p.y q.y g.positive f.positive (ap (λ (r : Point). r.y) same)));
     }
 
+-- integers are equal, or they differ
 equal_or_not : (x y : ℤ) → (x ≡ y) ⊎ (x ≡ y → ⊥)
 equal_or_not x y = elim (compared x y) [
   | inr more ↦ inr (λ e. omega (arith, ints))

@@ -68,6 +68,7 @@ negative_reach r p q some square h k =
     let k2 = k.high in
     record { from = omega (arith, ints); below = omega (arith, ints) }
 
+-- a number above 0 is at most its square
 square_least : (r : ℕ) → 0 < r → r ≤ r * r
 square_least r some = omega (arith, mul-le-mul_left r some)
 
@@ -83,6 +84,7 @@ negative_fits w W e some split low high q sl sh sq second none zero es ez en =
     let fits : FitsSigned W (pos 0 -ℤ cross_of (vector low high) (vector low q)) = reach-fits W _ (subst (λ (m : ℕ). InReach m (pos 0 -ℤ cross_of (vector low high) (vector low q))) (sym (wide-reach w W e)) reach) in
     en ∙ ap₂ (λ (z s : ℤ). int_wrap W (z -ℤ s)) ez es ∙ int_wrap_fits W _ fits ∙ ap (λ (s : ℤ). pos 0 -ℤ s) (sym es)
 
+-- the sum of two numbers in the range of r is in the wider range
 sum_reach : (r : ℕ) (a b : ℤ) → 0 < r → r ≤ r * r → InReach r a → InReach r b → InReach (2 * (r * r)) (a +ℤ b)
 sum_reach r a b some square f g =
     let f1 = f.from in

@@ -19,7 +19,7 @@ use Rattle.i_shape_touching.proofs.PieceLaws.{middle_on, middle_off, sample_of}
 
 -- the piece at place i
 abbrev pub piece_at : List PieceOf → ℕ → PieceOf
-piece_at ps i = get_or ps i (record { ring = 0; edge = 0; first = origin; second = origin })
+piece_at ps i = get_or ps i (record { ring = 0; first = origin; second = origin })
 
 -- one of the pieces, of ring k, passes the test
 pub record SomePiece (Passes : PieceOf → Type 0) (ps : List PieceOf) (k : ℕ) : Type 0 where
@@ -38,12 +38,14 @@ some_piece Passes ps p h passes = record {
 }
   where
     at : (i : ℕ) → i < length ps → get_or ps i p ≡ p → piece_at ps i ≡ p
-    at i within e = get_or_default ps i (record { ring = 0; edge = 0; first = origin; second = origin }) p within ∙ e
+    at i within e = get_or_default ps i (record { ring = 0; first = origin; second = origin }) p within ∙ e
 
+-- 2 is above 0
 two_positive : pos 0 <ℤ pos 2
 two_positive = omega (arith, ints)
 
 module _ (offsets : List ℕ) (c : List Point) (divides : DividesPoints (length c) offsets) (whole : NoDegenerateRing offsets c) (clear : NoContact (IsFaultyContact offsets c)) where
+  -- where there is a hole, there is an outer contour
   outer_is_ring : (k : ℕ) → 0 < k → k + 1 < length offsets → 0 + 1 < length offsets
   outer_is_ring k some h = omega (arith, h, some)
 
@@ -58,9 +60,9 @@ module _ (offsets : List ℕ) (c : List Point) (divides : DividesPoints (length 
           divisor = pos 2;
           positive = two_positive;
           scaled = sum_of_points p.first p.second;
-          on = middle_on offsets c divides whole clear p.ring p.edge p.first p.second is.is_edge is.piece;
+          on = middle_on offsets c divides whole clear p.ring is.edge p.first p.second is.is_edge is.piece;
           lies = record {
-            off = middle_off offsets c divides whole clear p.ring 0 p.edge p.first p.second is.is_edge (outer_is_ring p.ring some is_ring) (λ e. omega (arith, e, some)) is.piece;
+            off = middle_off offsets c divides whole clear p.ring 0 is.edge p.first p.second is.is_edge (outer_is_ring p.ring some is_ring) (λ e. omega (arith, e, some)) is.piece;
             outside = out.outside;
           };
         };
@@ -76,9 +78,9 @@ module _ (offsets : List ℕ) (c : List Point) (divides : DividesPoints (length 
       divisor = pos 2;
       positive = two_positive;
       scaled = sum_of_points p.first p.second;
-      on = middle_on offsets c divides whole clear p.ring p.edge p.first p.second is.is_edge is.piece;
+      on = middle_on offsets c divides whole clear p.ring is.edge p.first p.second is.is_edge is.piece;
       lies = record {
-        off = middle_off offsets c divides whole clear p.ring j p.edge p.first p.second is.is_edge inside.other_is_hole.is_ring inside.differ is.piece;
+        off = middle_off offsets c divides whole clear p.ring j is.edge p.first p.second is.is_edge inside.other_is_hole.is_ring inside.differ is.piece;
         inside = inside.inside;
       };
     };
@@ -87,12 +89,12 @@ module _ (offsets : List ℕ) (c : List Point) (divides : DividesPoints (length 
   module _ (ps : List PieceOf) (are : ArePieces offsets c ps) where
     -- each place of the list has a piece
     pub is_piece_at : (i : ℕ) → i < length ps → IsRingPiece offsets c (piece_at ps i)
-    is_piece_at i h = are.each i (record { ring = 0; edge = 0; first = origin; second = origin }) h
+    is_piece_at i h = are.each i (record { ring = 0; first = origin; second = origin }) h
 
     -- pieces come in order of their rings
     ordered : (i j : ℕ) → i ≤ j → j < length ps → (piece_at ps i).ring ≤ (piece_at ps j).ring
     ordered i j h within = elim (cases_lt i j) [
-      | inl l ↦ are.order i j (record { ring = 0; edge = 0; first = origin; second = origin }) l within
+      | inl l ↦ are.order i j (record { ring = 0; first = origin; second = origin }) l within
       | inr l ↦ (let same : i ≡ j = omega (arith, h, l) in subst (λ (n : ℕ). (piece_at ps i).ring ≤ (piece_at ps n).ring) same (omega arith))
     ]
 
@@ -101,16 +103,16 @@ module _ (offsets : List ℕ) (c : List Point) (divides : DividesPoints (length 
     piece_of_leaving k w =
         let some = w.is_hole.not_outer in
         let s = sample_of offsets c divides whole clear are.marks are.are_marks k 0 w.is_hole.is_ring (outer_is_ring k some w.is_hole.is_ring) (λ e. omega (arith, e, some)) w.outside.divisor w.outside.scaled w.outside.positive w.outside.on w.outside.lies.off in
-        some_piece (IsPieceOutside offsets c) ps (record { ring = k; edge = s.edge; first = s.first; second = s.second })
-        (are.all (record { ring = k; edge = s.edge; first = s.first; second = s.second }) (record { is_edge = s.is_edge; listed = s.listed; piece = s.piece }))
+        some_piece (IsPieceOutside offsets c) ps (record { ring = k; first = s.first; second = s.second })
+        (are.all (record { ring = k; first = s.first; second = s.second }) (record { edge = s.edge; is_edge = s.is_edge; listed = s.listed; piece = s.piece }))
         (record { not_outer = some; outside = sym s.same ∙ w.outside.lies.outside })
 
     -- a hole with a point inside another has a piece whose middle lies inside it
     pub piece_of_entering : (k j : ℕ) → EntersHole offsets c k j → SomePiece (λ p. IsPieceWithin offsets c p j) ps k
     piece_of_entering k j w =
         let s = sample_of offsets c divides whole clear are.marks are.are_marks k j w.is_hole.is_ring w.other_is_hole.is_ring w.differ w.inside.divisor w.inside.scaled w.inside.positive w.inside.on w.inside.lies.off in
-        some_piece (λ p. IsPieceWithin offsets c p j) ps (record { ring = k; edge = s.edge; first = s.first; second = s.second })
-        (are.all (record { ring = k; edge = s.edge; first = s.first; second = s.second }) (record { is_edge = s.is_edge; listed = s.listed; piece = s.piece }))
+        some_piece (λ p. IsPieceWithin offsets c p j) ps (record { ring = k; first = s.first; second = s.second })
+        (are.all (record { ring = k; first = s.first; second = s.second }) (record { edge = s.edge; is_edge = s.is_edge; listed = s.listed; piece = s.piece }))
         (record { not_outer = w.is_hole.not_outer; other_is_hole = w.other_is_hole; differ = w.differ; inside = λ e. w.inside.lies.inside (s.same ∙ e) })
 
     -- ---- the first hole with a point outside
@@ -118,6 +120,7 @@ module _ (offsets : List ℕ) (c : List Point) (divides : DividesPoints (length 
     abbrev pub NoneOutside : ℕ → Type 0
     NoneOutside n = (i : ℕ) → i < n → IsPieceOutside offsets c (piece_at ps i) → ⊥
 
+    -- the first piece that lies outside is one of the first hole with a point outside
     pub first_outside : (n : ℕ) → n < length ps → NoneOutside n → IsPieceOutside offsets c (piece_at ps n) → IsLeast (LeavesOuter offsets c) (piece_at ps n).ring
     first_outside n within none here = record {
       is = leaves_by_piece (piece_at ps n) (is_piece_at n within) here;
@@ -128,6 +131,7 @@ module _ (offsets : List ℕ) (c : List Point) (divides : DividesPoints (length 
           ]);
     }
 
+    -- if no piece lies outside, no hole has a point outside
     pub none_outside : (n : ℕ) → length ps ≤ n → NoneOutside n → (k : ℕ) → LeavesOuter offsets c k → ⊥
     none_outside n past none k w = let p = piece_of_leaving k w in none p.place (reach p.place n p.within past) p.passes
       where
@@ -139,9 +143,11 @@ module _ (offsets : List ℕ) (c : List Point) (divides : DividesPoints (length 
     abbrev pub NoneWithinAny : ℕ → Type 0
     NoneWithinAny n = (i : ℕ) → i < n → IsPieceWithinAny offsets c (piece_at ps i) → ⊥
 
+    -- a piece inside some hole is one of a hole with a point inside it
     pub enters_some : (n : ℕ) → n < length ps → IsPieceWithinAny offsets c (piece_at ps n) → (j : ℕ) × EntersHole offsets c (piece_at ps n).ring j
     enters_some n within here = (here.other, enters_by_piece (piece_at ps n) here.other (is_piece_at n within) here.is_within)
 
+    -- the first piece inside some hole is one of the first hole with a point inside another
     pub first_to_enter : (n hole other : ℕ) → n < length ps → NoneWithinAny n → IsFirstEntered offsets c (piece_at ps n).ring hole other → IsFirstToEnter offsets c hole other
     first_to_enter n hole other within none found = record {
       first_other = subst (λ (k : ℕ). IsLeast (EntersHole offsets c k) other) (sym found.same) found.first;
@@ -153,6 +159,7 @@ module _ (offsets : List ℕ) (c : List Point) (divides : DividesPoints (length 
           ]);
     }
 
+    -- if no piece lies inside a hole, no hole has a point inside another
     pub none_within_any : (n : ℕ) → length ps ≤ n → NoneWithinAny n → (k j : ℕ) → EntersHole offsets c k j → ⊥
     none_within_any n past none k j w = let p = piece_of_entering k j w in none p.place (reach p.place n p.within past) (record { other = j; is_within = p.passes })
       where
@@ -164,12 +171,14 @@ module _ (offsets : List ℕ) (c : List Point) (divides : DividesPoints (length 
     abbrev pub NoneOf : ℕ → ℕ → ℕ → Type 0
     NoneOf k j n = (i : ℕ) → i < n → (piece_at ps i).ring ≡ k → IsPieceWithin offsets c (piece_at ps i) j → ⊥
 
+    -- if no piece of hole k lies inside hole j, no point does
     pub none_of : (k j n : ℕ) → length ps ≤ n → NoneOf k j n → EntersHole offsets c k j → ⊥
     none_of k j n past none w = let p = piece_of_entering k j w in none p.place (reach p.place n p.within past) p.ring p.passes
       where
         reach : (i n : ℕ) → i < length ps → length ps ≤ n → i < n
         reach i n h k = omega (arith, h, k)
 
+    -- if one does, hole k has a point inside hole j
     pub enters_at : (k j n : ℕ) → n < length ps → (piece_at ps n).ring ≡ k → IsPieceWithin offsets c (piece_at ps n) j → EntersHole offsets c k j
     enters_at k j n within ring here = subst (λ (r : ℕ). EntersHole offsets c r j) ring (enters_by_piece (piece_at ps n) j (is_piece_at n within) here)
 

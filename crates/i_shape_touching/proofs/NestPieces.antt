@@ -6,6 +6,7 @@ use Rattle.std.proofs.lemmas.List.Elements.{All-push, Contains-push, Contains-ap
 use Rattle.std.proofs.lemmas.List.Quantifiers.{all_pairs_push}
 use Rattle.i_shape_core.specs.Point.{Point, origin}
 use Rattle.i_shape_core.specs.IntPoint.{point_of}
+use Rattle.i_shape_core.specs.Rings.{offset}
 use Rattle.i_shape_core.specs.declared.point.IntPoint.{IntPoint}
 use Rattle.i_shape_core.proofs.Lists.Rings.{rises_to}
 use Rattle.i_shape_contacts.specs.Courses.{DividesPoints}
@@ -21,7 +22,7 @@ mark_at ms i = get_or ms i (record { edge = 0; point = origin })
 
 -- the piece from one mark to the next
 abbrev pub made : ℕ → MarkOf → MarkOf → PieceOf
-made r a b = record { ring = r; edge = a.edge; first = a.point; second = b.point }
+made r a b = record { ring = r; first = a.point; second = b.point }
 
 -- the marks are of one edge, and of two points
 abbrev pub AreParted : MarkOf → MarkOf → Type 0
@@ -32,7 +33,7 @@ pub record PiecesUpTo (offsets : List ℕ) (c : List Point) (ms : List MarkOf) (
   pub each : All (IsRingPiece offsets c) pieces
   pub found : (i : ℕ) → i + 1 < n → AreParted (mark_at ms i) (mark_at ms (i + 1)) → (r : ℕ) → IsEdgeOf offsets r (mark_at ms i).edge → Contains pieces (made r (mark_at ms i) (mark_at ms (i + 1)))
   pub order : AllPairs (λ p q. p.ring ≤ q.ring) pieces
-  pub behind : All (λ p. p.edge ≤ (mark_at ms (n - 1)).edge) pieces
+  pub behind : All (λ p. offset offsets p.ring ≤ (mark_at ms (n - 1)).edge) pieces
 
 -- a mark of the program at a place
 pub mark_read : {X : Type 0} (f : X → MarkOf) (items : List X) (i : ℕ) (m : X) → i < length items → m ≡ get_or items i m → mark_at (map f items) i ≡ f m
@@ -42,15 +43,13 @@ mark_read f items i m h e = get_or-map f items i m _ h ∙ ap f (sym e)
 place_of : (ms : List MarkOf) (m : MarkOf) → Contains ms m → (i : ℕ) × ((i < length ms) × (mark_at ms i ≡ m))
 place_of ms m h = (h.0, (h.1, get_or_default ms h.0 (record { edge = 0; point = origin }) m h.1 ∙ h.2))
 
--- an edge before another is one of a ring before its ring, or of the same
-pub rings_rise : (offsets : List ℕ) (n : ℕ) → DividesPoints n offsets → (r s k l : ℕ) → IsEdgeOf offsets r k → IsEdgeOf offsets s l → k ≤ l → r ≤ s
-rings_rise offsets n d r s k l e f h = elim (cases_lt s r) [
+-- a ring that starts up to an edge is the edge's ring or one before it
+rings_rise : (offsets : List ℕ) (n : ℕ) → DividesPoints n offsets → (r s k : ℕ) → r + 1 < length offsets → offset offsets r ≤ k → IsEdgeOf offsets s k → r ≤ s
+rings_rise offsets n d r s k is_ring from f = elim (cases_lt s r) [
   | inr m ↦ m
-  | inl m ↦ (let is_ring = e.is_ring in
-      let from = e.from in
-      let below = f.below in
+  | inl m ↦ (let below = f.below in
       let up = rises_to offsets (length offsets) (s + 1) r d.divides.order (omega (arith, m)) (omega (arith, is_ring)) in
-      absurd (omega (arith, h, from, below, up)))
+      absurd (omega (arith, from, below, up)))
 ]
 
 -- ordered marks of one edge
@@ -58,6 +57,7 @@ same_edge : (k : ℕ) (p q : Point) → IsOrdered (mark k p) (mark k q) → (p �
 same_edge k p q (inl l) = absurd (omega (arith, l))
 same_edge k p q (inr h) = h.1
 
+-- no mark comes before one of a lesser point
 never_back : (k : ℕ) (p q : Point) → IsLess p q → IsOrdered (mark k q) (mark k p) → ⊥
 never_back k p q less h = elim (same_edge k q p h) [
   | inl e ↦ not_less_itself q (subst (λ (r : Point). IsLess r q) (sym e) less)
@@ -72,9 +72,11 @@ module _ (offsets : List ℕ) (c : List Point) (divides : DividesPoints (length 
   mark_within k p (shared s) = edge_within offsets c divides s.on_edge.follows.ring k (edge_of offsets k s.on_edge.end s.on_edge.follows)
 
   module _ (ms : List MarkOf) (are : AreMarks offsets c ms) where
+    -- each item of the list is a mark
     pub is_mark_at : (i : ℕ) → i < length ms → IsMark offsets c (mark_at ms i).edge (mark_at ms i).point
     is_mark_at i h = are.each i (record { edge = 0; point = origin }) h
 
+    -- an item comes before each later one
     in_order : (i j : ℕ) → i < j → j < length ms → IsOrdered (mark_at ms i) (mark_at ms j)
     in_order i j h k = are.order i j (record { edge = 0; point = origin }) h k
 
@@ -175,6 +177,7 @@ module _ (offsets : List ℕ) (c : List Point) (divides : DividesPoints (length 
       behind = λ k d h. absurd (omega (arith, h));
     }
 
+    -- edges rise from one item to the next
     edges_rise : (n : ℕ) → 0 < n → n < length ms → (mark_at ms (n - 1)).edge ≤ (mark_at ms (n + 1 - 1)).edge
     edges_rise n some within =
         let here : n + 1 - 1 ≡ n = omega arith in
@@ -184,7 +187,8 @@ module _ (offsets : List ℕ) (c : List Point) (divides : DividesPoints (length 
         at_most a b (inl l) = omega (arith, l)
         at_most a b (inr e) = let same = e.0 in omega (arith, same)
 
-    behind_more : (n : ℕ) (pieces : List PieceOf) → 0 < n → n < length ms → All (λ p. p.edge ≤ (mark_at ms (n - 1)).edge) pieces → All (λ p. p.edge ≤ (mark_at ms (n + 1 - 1)).edge) pieces
+    -- so pieces stay behind
+    behind_more : (n : ℕ) (pieces : List PieceOf) → 0 < n → n < length ms → All (λ p. offset offsets p.ring ≤ (mark_at ms (n - 1)).edge) pieces → All (λ p. offset offsets p.ring ≤ (mark_at ms (n + 1 - 1)).edge) pieces
     behind_more n pieces some within all = let up = edges_rise n some within in λ k d h. on (all k d h) up
       where
         on : {x y z : ℕ} → x ≤ y → y ≤ z → x ≤ z
@@ -212,7 +216,7 @@ module _ (offsets : List ℕ) (c : List Point) (divides : DividesPoints (length 
         let next : n - 1 + 1 ≡ n = omega (arith, some) in
         let parted' = subst (λ (j : ℕ). AreParted (mark_at ms (n - 1)) (mark_at ms j)) (sym next) parted in
         let piece = subst (λ (j : ℕ). IsPiece offsets c (mark_at ms (n - 1)).edge (mark_at ms (n - 1)).point (mark_at ms j).point) next (neighbours_piece (n - 1) (omega (arith, within, next)) parted') in
-        let is : IsRingPiece offsets c it = record { is_edge = is_edge; listed = are.listed (n - 1) (record { edge = 0; point = origin }) (omega (arith, within)); piece = piece } in
+        let is : IsRingPiece offsets c it = record { edge = (mark_at ms (n - 1)).edge; is_edge = is_edge; listed = are.listed (n - 1) (record { edge = 0; point = origin }) (omega (arith, within)); piece = piece } in
         let up = edges_rise n some within in
         subst (PiecesUpTo offsets c ms (n + 1)) (sym e) (record {
           each = All-push (IsRingPiece offsets c) pieces it known.each is;
@@ -221,23 +225,23 @@ module _ (offsets : List ℕ) (c : List Point) (divides : DividesPoints (length 
             | inr l ↦ (let last : n ≡ i + 1 = omega (arith, h, l) in
                 let before : n - 1 ≡ i = omega (arith, last) in
                 let f' = subst (λ (j : ℕ). IsEdgeOf offsets r (mark_at ms j).edge) (sym before) f in
-                let low = rings_rise offsets (length c) divides r s _ _ f' is_edge (omega arith) in
-                let high = rings_rise offsets (length c) divides s r _ _ is_edge f' (omega arith) in
+                let low = rings_rise offsets (length c) divides r s _ f'.is_ring f'.from is_edge in
+                let high = rings_rise offsets (length c) divides s r _ is_edge.is_ring is_edge.from f' in
                 let ring : s ≡ r = omega (arith, low, high) in
                 let same : it ≡ made r (mark_at ms i) (mark_at ms (i + 1)) = ap (λ (t : ℕ). made t (mark_at ms (n - 1)) (mark_at ms n)) ring
                 ∙ ap (λ (j : ℕ). made r (mark_at ms j) (mark_at ms n)) before ∙ ap (λ (j : ℕ). made r (mark_at ms i) (mark_at ms j)) last in
                 subst (Contains (pieces ++ it ∷ [])) same (Contains-push pieces it))
           ];
           order = all_pairs_push (λ p q. p.ring ≤ q.ring) pieces it known.order
-              (λ k d h. rings_rise offsets (length c) divides (get_or pieces k d).ring s _ _ (known.each k d h).is_edge is_edge (known.behind k d h));
-          behind = All-push (λ p. p.edge ≤ (mark_at ms (n + 1 - 1)).edge) pieces it (behind_more n pieces some within known.behind) up;
+              (λ k d h. rings_rise offsets (length c) divides (get_or pieces k d).ring s _ (known.each k d h).is_edge.is_ring (known.behind k d h) is_edge);
+          behind = All-push (λ p. offset offsets p.ring ≤ (mark_at ms (n + 1 - 1)).edge) pieces it (behind_more n pieces some within known.behind) (let from = is_edge.from in omega (arith, from, up));
         })
 
     -- between all marks lie all pieces
     pub all_pieces : (n : ℕ) (pieces : List PieceOf) → length ms ≤ n → PiecesUpTo offsets c ms n pieces → ArePieces offsets c pieces
     all_pieces n pieces past known = record {
       each = known.each;
-      all = λ p is. (let at = piece_neighbours p.edge p.first p.second is.listed is.piece in
+      all = λ p is. (let at = piece_neighbours is.edge p.first p.second is.listed is.piece in
           let i = at.place in
           let within = at.within in
           let parted : AreParted (mark_at ms i) (mark_at ms (i + 1)) = (

@@ -16,8 +16,8 @@ use i_shape_core::number::IntNumber;
 use i_shape_core::point::{ContourPoint, IntPoint};
 use std::alloc::{AllocError, Global};
 
-/// An edge, by the place of the point from which it leads, and a point of it: an end, or one at which it touches another
-/// ring.
+/// An edge, by the place of the point from which it leads, and a point of it: an end, or one at which it touches
+/// another ring.
 #[derive(Clone, Copy)]
 pub(crate) struct Mark<I> {
     pub edge: usize,
@@ -48,20 +48,9 @@ pub(crate) fn marks_of<P: ContourPoint>(
         push_ends(&mut marks, points, offsets, offsets[ring])?;
     }
     for touch in touches {
-        push_touch(
-            &mut marks,
-            points,
-            offsets,
-            touch.contact.first,
-            touch.point,
-        )?;
-        push_touch(
-            &mut marks,
-            points,
-            offsets,
-            touch.contact.second,
-            touch.point,
-        )?;
+        let contact = touch.contact;
+        push_touch(&mut marks, points, offsets, contact.first, touch.point)?;
+        push_touch(&mut marks, points, offsets, contact.second, touch.point)?;
     }
     marks.sort_unstable_by_key(|mark| (mark.edge, mark.point.x, mark.point.y));
     Ok(marks)

@@ -73,13 +73,10 @@ fn edge_winding<I: IntNumber>(middle: Middle<I>, start: IntPoint<I>, end: IntPoi
 fn lies_above<I: IntNumber>(middle: Middle<I>, point: IntPoint<I>) -> bool
     ensures { result ≡ is_above (twice_middle I.value middle) (twice_point I.value point) }
 {
+    let first = middle.first.y.to_wide();
+    let second = middle.second.y.to_wide();
     let y = point.y.to_wide();
-    let sum = middle
-        .first
-        .y
-        .to_wide()
-        .wrapping_add(middle.second.y.to_wide());
-    sum < y.wrapping_add(y)
+    first.wrapping_add(second) < y.wrapping_add(y)
 }
 
 /// Returns whether a middle is strictly left of the line from `low` to `high`.

@@ -10,18 +10,18 @@ ghost use Rattle.i_shape_touching.specs.Touching.{IsFaultyContact, LeavesOuter, 
 ghost use Rattle.i_shape_touching.specs.Steps.Touches.{AreTouches};
 ghost use Rattle.i_shape_touching.specs.Steps.Pieces.{IsRingPiece, ArePieces, IsPieceOutside, IsPieceWithin, IsPieceWithinAny, IsFirstEntered, piece_of, winding_about_piece};
 
-use crate::marks::{Mark, marks_of};
+use crate::marks::marks_of;
 use crate::middle::{Middle, winding_about_middle};
 use crate::touches::{Touch, ring_of_edge};
 use i_shape_core::batch::part;
 use i_shape_core::point::ContourPoint;
 use std::alloc::{AllocError, Global};
 
-/// A part of an edge: between two points at which it touches other rings or ends, and no such point between them.
+/// A piece of an edge, with the edge's ring: between two points that follow one another on the edge, each an end of it
+/// or one at which it touches another ring.
 #[derive(Clone, Copy)]
 pub(crate) struct Piece<I> {
     pub ring: usize,
-    pub edge: usize,
     pub middle: Middle<I>,
 }
 
@@ -58,7 +58,6 @@ pub(crate) fn pieces_of<P: ContourPoint>(
         if mark.edge == next.edge && mark.point != next.point {
             pieces.push(Piece {
                 ring: ring_of_edge(offsets, mark.edge),
-                edge: mark.edge,
                 middle: Middle {
                     first: mark.point,
                     second: next.point,

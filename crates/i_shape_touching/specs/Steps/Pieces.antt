@@ -83,19 +83,19 @@ pub record AddsTouch (offsets : List ℕ) (c : List Point) (k : ℕ) (p : Point)
 -- two points of an edge, and its ring
 pub record PieceOf : Type 0 where
   pub ring : ℕ
-  pub edge : ℕ
   pub first : Point
   pub second : Point
 
 -- what a piece of the program represents
 abbrev pub piece_of : {I : Type 0} → (I → ℤ) → Piece I → PieceOf
-piece_of value p = record { ring = p.ring; edge = p.edge; first = point_of value p.middle.first; second = point_of value p.middle.second }
+piece_of value p = record { ring = p.ring; first = point_of value p.middle.first; second = point_of value p.middle.second }
 
--- the points bound a piece of an edge to look at, and the edge is one of the ring
+-- the points bound a piece of an edge to look at, which is one of the ring
 pub record IsRingPiece (offsets : List ℕ) (c : List Point) (p : PieceOf) : Type 0 where
-  pub is_edge : IsEdgeOf offsets p.ring p.edge
-  pub listed : IsListed offsets c p.edge
-  pub piece : IsPiece offsets c p.edge p.first p.second
+  pub edge : ℕ
+  pub is_edge : IsEdgeOf offsets p.ring edge
+  pub listed : IsListed offsets c edge
+  pub piece : IsPiece offsets c edge p.first p.second
 
 -- the list has all pieces of edges to look at, and nothing else, in order of the rings
 pub record ArePieces (offsets : List ℕ) (c : List Point) (pieces : List PieceOf) : Type 0 where

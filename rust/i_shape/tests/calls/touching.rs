@@ -303,8 +303,8 @@ fn side(ring: &[Point], at: Point) -> Side {
 }
 
 /// The points at each twelfth of a contour's edges. Contours whose edges only touch do so at points of
-/// the grid. These divide an edge into one, two or three parts: each lies on one side of another contour,
-/// and its middle, a multiple of 1/2, 1/4 or 1/6 of the edge, is among the points.
+/// the grid. These divide an edge into one, two or three parts: each lies on one side of another
+/// contour, and its middle, a multiple of 1/2, 1/4 or 1/6 of the edge, is among the points.
 fn sampled(ring: &[Point]) -> Vec<Point> {
     let on_edge = |[a, b]: [Point; 2]| {
         let [x, y] = way(a, b);
@@ -314,9 +314,9 @@ fn sampled(ring: &[Point]) -> Vec<Point> {
 }
 
 /// Whether each two points inside the polygon, whose contours only touch, are joined by a path inside.
-/// Cut along lines between points of the grid, the inside is triangles with corners there: their middles
-/// are multiples of 1/3, and those of their sides of 1/2. So it is connected if and only if all such
-/// points inside are, by lines that meet no edge.
+/// Cut along lines between points of the grid, the inside is triangles with corners there: their
+/// middles are multiples of 1/3, and those of their sides of 1/2. So it is connected if and only if all
+/// such points inside are, by lines that meet no edge.
 fn is_connected(rings: &[Vec<Point>]) -> bool {
     let is_inside = |&at: &Point| {
         let mut sides = rings.iter().map(|ring| side(ring, at));
@@ -346,8 +346,8 @@ fn is_connected(rings: &[Vec<Point>]) -> bool {
     left.is_empty()
 }
 
-/// Whether the polygon is valid if its contours may touch: by all pairs of edges, by points of each, and
-/// by paths inside.
+/// Whether the polygon is valid if its contours may touch: by all pairs of edges, by points of each,
+/// and by paths inside.
 fn is_valid(rings: &Rings) -> bool {
     let is_degenerate = |ring: &&Written| ring.len() < 3 || ring.iter().all(|at| *at == ring[0]);
     let of_ring: Vec<_> = (0..)

@@ -9,6 +9,6 @@ returns g c =
     let wide = g.met.I.Wide.WideIntNumber in
     let w = g.I.IntNumber.width in
     let W = g.I.Wide.WideIntNumber.width in
-    let sum = sum_wide w W number.wide_bits _ _ _ _ _ c.to_wide.ensures.range c.to_wide-2.ensures.range c.to_wide.ensures.same c.to_wide-2.ensures.same c.wrapping_add-sum.ensures in
-    let twice = sum_wide w W number.wide_bits _ _ _ _ _ c.to_wide-y.ensures.range c.to_wide-y.ensures.range c.to_wide-y.ensures.same c.to_wide-y.ensures.same c.wrapping_add.ensures in
-    less-tells c.lt.result (g.I.Wide.WideIntNumber.value c.wrapping_add-sum.result) (g.I.Wide.WideIntNumber.value c.wrapping_add.result) (lt-tells _ _ _ _ c.lt.ensures (wide.partial_order _ _)) ∙ ap₂ (λ (x y : ℤ). int_lt x y) sum twice
+    let sum = sum_wide w W number.wide_bits _ _ _ _ _ c.to_wide-first.ensures.range c.to_wide-second.ensures.range c.to_wide-first.ensures.same c.to_wide-second.ensures.same c.wrapping_add.ensures in
+    let twice = sum_wide w W number.wide_bits _ _ _ _ _ c.to_wide-y.ensures.range c.to_wide-y.ensures.range c.to_wide-y.ensures.same c.to_wide-y.ensures.same c.wrapping_add-2.ensures in
+    less-tells c.lt.result (g.I.Wide.WideIntNumber.value c.wrapping_add.result) (g.I.Wide.WideIntNumber.value c.wrapping_add-2.result) (lt-tells _ _ _ _ c.lt.ensures (wide.partial_order _ _)) ∙ ap₂ (λ (x y : ℤ). int_lt x y) sum twice

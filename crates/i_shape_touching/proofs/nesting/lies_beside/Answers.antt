@@ -38,7 +38,7 @@ winding_about_middle-requires-clause-first_safe g c =
     let list = contour_of value (points c.args.points.now) in
     let offsets = c.args.offsets.now in
     let divides = divides_read value g.P.ContourPoint.point points g.P.ContourPoint.each c.args.points.now offsets c.requires.divides in
-    mark_safe g.P.Coordinate.IntNumber.width offsets list divides c.requires.safe c.args.piece.edge (point_of value c.args.piece.middle.first) c.requires.piece.piece.first
+    mark_safe g.P.Coordinate.IntNumber.width offsets list divides c.requires.safe c.requires.piece.edge (point_of value c.args.piece.middle.first) c.requires.piece.piece.first
 
 pub winding_about_middle-requires-clause-second_safe : goal.winding_about_middle-requires-clause-second_safe
 winding_about_middle-requires-clause-second_safe g c =
@@ -47,7 +47,7 @@ winding_about_middle-requires-clause-second_safe g c =
     let list = contour_of value (points c.args.points.now) in
     let offsets = c.args.offsets.now in
     let divides = divides_read value g.P.ContourPoint.point points g.P.ContourPoint.each c.args.points.now offsets c.requires.divides in
-    mark_safe g.P.Coordinate.IntNumber.width offsets list divides c.requires.safe c.args.piece.edge (point_of value c.args.piece.middle.second) c.requires.piece.piece.second
+    mark_safe g.P.Coordinate.IntNumber.width offsets list divides c.requires.safe c.requires.piece.edge (point_of value c.args.piece.middle.second) c.requires.piece.piece.second
 
 pub returns : goal.returns
 returns g c =
