@@ -11,8 +11,6 @@ use i_shape::source::float::resource::{ShapePoint, ShapeResource};
 use i_shape::source::int::contour::ContourResourceIterator;
 use i_shape::source::int::resource::IntShapeResource;
 use i_shape::{IntNumber, path};
-use i_shape_source::float::member::ResourceMember;
-use i_shape_source::int::member::IntResourceMember;
 use i_shape_test_data::given::WholePoint;
 use i_shape_test_data::row::Row;
 use i_shape_test_data::texts;
@@ -113,125 +111,91 @@ fn some_paths<P: Copy>(alloc: Global, path: &[P]) -> Result<[Vec<P>; 3], Fail> {
     Ok([path.to_vec(alloc)?, Vec::new(alloc), rest])
 }
 
-/// An array, behind one reference, two and three, lends these paths.
-fn array_lends<'a, I: IntNumber + 'a, T: IntResourceMember<'a, I>, const N: usize>(
-    one: &'a [T; N],
-    two: &'a &'a [T; N],
-    three: &'a &'a &'a [T; N],
-    wanted: &[Vec<IntPoint<I>>],
-) -> bool {
-    lends(one, wanted) & lends(two, wanted) & lends(three, wanted)
-}
-
-/// The same of a vector.
-fn vector_lends<'a, I: IntNumber + 'a, T: IntResourceMember<'a, I>>(
-    one: &'a Vec<T>,
-    two: &'a &'a Vec<T>,
-    three: &'a &'a &'a Vec<T>,
-    wanted: &[Vec<IntPoint<I>>],
-) -> bool {
-    lends(one, wanted) & lends(two, wanted) & lends(three, wanted)
-}
-
-/// The same of a slice.
-fn slice_lends<'a, I: IntNumber + 'a, T: IntResourceMember<'a, I>>(
-    one: &'a [T],
-    two: &'a &'a [T],
-    three: &'a &'a &'a [T],
-    wanted: &[Vec<IntPoint<I>>],
-) -> bool {
-    lends(one, wanted) & lends(two, wanted) & lends(three, wanted)
-}
-
-/// The same over points of any type.
-fn array_lends_points<'a, P: ShapePoint + PartialEq + 'a, T: ResourceMember<'a, P>, const N: usize>(
-    one: &'a [T; N],
-    two: &'a &'a [T; N],
-    three: &'a &'a &'a [T; N],
-    wanted: &[Vec<P>],
-) -> bool {
-    lends_points(one, wanted) & lends_points(two, wanted) & lends_points(three, wanted)
-}
-
-fn vector_lends_points<'a, P: ShapePoint + PartialEq + 'a, T: ResourceMember<'a, P>>(
-    one: &'a Vec<T>,
-    two: &'a &'a Vec<T>,
-    three: &'a &'a &'a Vec<T>,
-    wanted: &[Vec<P>],
-) -> bool {
-    lends_points(one, wanted) & lends_points(two, wanted) & lends_points(three, wanted)
-}
-
-fn slice_lends_points<'a, P: ShapePoint + PartialEq + 'a, T: ResourceMember<'a, P>>(
-    one: &'a [T],
-    two: &'a &'a [T],
-    three: &'a &'a &'a [T],
-    wanted: &[Vec<P>],
-) -> bool {
-    lends_points(one, wanted) & lends_points(two, wanted) & lends_points(three, wanted)
-}
-
-/// An array, the vector of its items and a slice of that, each by its function, lend these paths.
+/// An array, the vector of its items and a slice of that, each behind one reference, two and three, lend these paths.
 macro_rules! lend_alike {
-    ($array_lends:ident, $vector_lends:ident, $slice_lends:ident, $row:ident, $array:ident, $wanted:ident) => {
-        let lent = $array_lends(&$array, &&$array, &&&$array, $wanted.as_slice());
+    ($lends:ident, $row:ident, $array:ident, $wanted:ident) => {
+        let lent = $lends(&$array, &$wanted)
+            & $lends(&&$array, &$wanted)
+            & $lends(&&&$array, &$wanted);
         $row.holds(lent, "an array")?;
         let vector = Vec::from_array($row.alloc, $array)?;
-        let lent = $vector_lends(&vector, &&vector, &&&vector, $wanted.as_slice());
-        $row.holds(lent, "a vector")?;
         let slice = vector.as_slice();
-        let lent = $slice_lends(slice, &slice, &&slice, $wanted.as_slice());
-        $row.holds(lent, "a slice")?;
+        let lent = $lends(&vector, &$wanted)
+            & $lends(&&vector, &$wanted)
+            & $lends(&&&vector, &$wanted)
+            & $lends(slice, &$wanted)
+            & $lends(&slice, &$wanted)
+            & $lends(&&slice, &$wanted);
+        $row.holds(lent, "a vector")?;
     };
 }
 
-/// Two points lend these paths in lists of shapes, of which some are empty, in lists of paths, and in lists of borrowed
-/// ones: of the points, of no point and of the last point.
+/// Two points lend these paths in lists of shapes, of which some are empty, and in lists of paths.
 macro_rules! lend_lists {
-    ($array_lends:ident, $vector_lends:ident, $slice_lends:ident, $row:ident, $points:ident) => {
+    ($lends:ident, $row:ident, $points:expr) => {
         let shapes = some_shapes($row.alloc, $points)?;
         let wanted = paths_of_some_shapes($row.alloc, $points)?;
-        lend_alike!($array_lends, $vector_lends, $slice_lends, $row, shapes, wanted);
+        lend_alike!($lends, $row, shapes, wanted);
         let paths = some_paths($row.alloc, $points)?;
         let wanted = some_paths($row.alloc, $points)?;
-        lend_alike!($array_lends, $vector_lends, $slice_lends, $row, paths, wanted);
-        let borrowed = [$points, &$points[..0], &$points[1.min($points.len())..]];
-        lend_alike!($array_lends, $vector_lends, $slice_lends, $row, borrowed, wanted);
-    };
-}
-
-/// Two points lend these paths as one path, as one without a point, and as none.
-macro_rules! lend_points {
-    ($lends:ident, $array_lends:ident, $vector_lends:ident, $slice_lends:ident, $row:ident, $points:ident) => {
-        let wanted = vec![in $row.alloc; Vec::new($row.alloc)]?;
-        $row.holds($lends(&$points.as_slice()[..0], &wanted), "no point")?;
+        lend_alike!($lends, $row, paths, wanted);
         let none = &wanted.as_slice()[..0];
         $row.holds($lends(none, none), "no path")?;
-        let wanted = vec![in $row.alloc; $points.to_vec($row.alloc)?]?;
-        lend_alike!($array_lends, $vector_lends, $slice_lends, $row, $points, wanted);
     };
 }
 
-fn lists_lend<I: IntNumber>(row: &Row<'_>, points: &[IntPoint<I>]) -> Result<(), Fail> {
-    lend_lists!(array_lends, vector_lends, slice_lends, row, points);
+/// Two points lend these paths as one path.
+macro_rules! lend_points {
+    ($lends:ident, $row:ident, $points:ident) => {
+        let wanted = vec![in $row.alloc; Vec::new($row.alloc)]?;
+        $row.holds($lends(&$points.as_slice()[..0], &wanted), "no point")?;
+        let wanted = vec![in $row.alloc; $points.to_vec($row.alloc)?]?;
+        lend_alike!($lends, $row, $points, wanted);
+    };
+}
+
+/// A list of the points, of no point and of the last point, all borrowed, lends these three, behind one reference, two
+/// and three.
+macro_rules! lend_borrowed {
+    ($lends:ident, $lends_vector:ident, $row:ident, $points:ident) => {
+        let wanted = some_paths($row.alloc, $points)?;
+        let array = [$points, &$points[..0], &$points[1.min($points.len())..]];
+        let slice = array.as_slice();
+        let lent = $lends(&array, &wanted)
+            & $lends(&&array, &wanted)
+            & $lends(&&&array, &wanted)
+            & $lends(slice, &wanted)
+            & $lends(&slice, &wanted)
+            & $lends(&&slice, &wanted);
+        $row.holds(lent, "an array of slices")?;
+        let vector = Vec::from_array($row.alloc, array)?;
+        $row.holds($lends_vector(&vector, &wanted), "a vector of slices")?;
+    };
+}
+
+/// Whether a vector of borrowed paths lends them, behind one reference, two and three.
+fn lends_vector<I: IntNumber>(vector: &Vec<&[IntPoint<I>]>, wanted: &[Vec<IntPoint<I>>]) -> bool {
+    lends(vector, wanted) & lends(&vector, wanted) & lends(&&vector, wanted)
+}
+
+fn lends_points_vector(vector: &Vec<&[WholePoint]>, wanted: &[Vec<WholePoint>]) -> bool {
+    lends_points(vector, wanted) & lends_points(&vector, wanted) & lends_points(&&vector, wanted)
+}
+
+fn borrowed_lend<I: IntNumber>(row: &Row<'_>, points: &[IntPoint<I>]) -> Result<(), Fail> {
+    lend_borrowed!(lends, lends_vector, row, points);
+    Ok(())
+}
+
+fn borrowed_points_lend(row: &Row<'_>, points: &[WholePoint]) -> Result<(), Fail> {
+    lend_borrowed!(lends_points, lends_points_vector, row, points);
     Ok(())
 }
 
 fn points_lend<I: IntNumber>(row: &Row<'_>, points: [IntPoint<I>; 2]) -> Result<(), Fail> {
-    lists_lend(row, points.as_slice())?;
-    lend_points!(lends, array_lends, vector_lends, slice_lends, row, points);
-    Ok(())
-}
-
-/// The same over points of the tests' own.
-fn whole_lists_lend(row: &Row<'_>, points: &[WholePoint]) -> Result<(), Fail> {
-    lend_lists!(
-        array_lends_points,
-        vector_lends_points,
-        slice_lends_points,
-        row,
-        points
-    );
+    borrowed_lend(row, points.as_slice())?;
+    lend_lists!(lends, row, points.as_slice());
+    lend_points!(lends, row, points);
     Ok(())
 }
 
@@ -247,15 +211,9 @@ fn lists_of_each_width_lend_their_paths(rt: HostRuntime) -> Result<(), Fail> {
 fn lists_of_other_points_lend_their_paths(rt: HostRuntime) -> Result<(), Fail> {
     let row = &Row::new(rt.alloc(), "two points of the tests' own");
     let points = [WholePoint { x: 7, y: 1 }, WholePoint { x: 2, y: -3 }];
-    whole_lists_lend(row, points.as_slice())?;
-    lend_points!(
-        lends_points,
-        array_lends_points,
-        vector_lends_points,
-        slice_lends_points,
-        row,
-        points
-    );
+    borrowed_points_lend(row, points.as_slice())?;
+    lend_lists!(lends_points, row, points.as_slice());
+    lend_points!(lends_points, row, points);
     Ok(())
 }
 
