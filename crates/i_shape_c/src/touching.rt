@@ -17,12 +17,12 @@ use crate::validity::{
 use i_shape_touching::{TouchingValidity, touching_validity_of};
 use std::alloc::{AllocError, Global};
 
-/// The kind of two edges that touch, and whose contours other touches join too: `first` and `second` are the points from
-/// which they lead.
+/// The kind of two edges that touch, and whose contours other touches join too: `first` and `second` are the points
+/// from which they lead.
 const DISCONNECTED: usize = 5;
 
-/// Writes the first fault of each polygon if its contours may touch, to the front of `out`. Returns 0, or a code below 0.
-/// Memory for a fault of each polygon is needed, for a copy of the offsets of one, and for its contacts.
+/// Writes the first fault of each polygon if its contours may touch to the front of `out`. Returns 0, or a code below
+/// 0. Memory for a fault of each polygon is needed, for a copy of the offsets of one, and for its contacts.
 pub fn find_touching_faults<P: CPoint>(
     alloc: Global,
     points: &[P],
