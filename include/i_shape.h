@@ -305,8 +305,8 @@ int32_t i_shape_validity_shapes_i32(const i_shape_point_i32 *points, size_t coun
  * - I_SHAPE_CONTACT: the first contact of edges that are of one contour, cross or overlap.
  * - I_SHAPE_HOLE_OUTSIDE, I_SHAPE_HOLE_WITHIN: any point of the hole's edges counts, not only its vertices.
  * - I_SHAPE_DISCONNECTED: first and second are the points from which two edges lead that touch, the lesser index first.
- *   Their contours are also joined by touches at points that are less, by x and then by y. Of such edges they are those
- *   that touch at the least point, and there the first.
+ *   Touches at lesser points, by x and then by y, join their contours already. Of such edges they are those that touch at
+ *   the least point, and there the first.
  *
  * The codes are those above, and leave out as it was. I_SHAPE_NO_MEMORY: there is a polygon, and an allocation failed, of
  * that copy of the offsets, of a fault for each polygon, or where edges of one are in contact. */
