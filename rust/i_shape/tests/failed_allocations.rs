@@ -168,11 +168,11 @@ fn shapes_and_lists<I: Number>() {
     // of a copy of the points, and of one of the offsets
     assert_eq!(growths(|| given[1].try_validity()), 2);
     assert_eq!(growths(|| given[1].try_is_valid()), 2);
-    // the same if contours may touch, but where edges are in contact
+    // the same if contours may touch; eight more where they do: contacts, touches, marks of edges, pieces, labels
     assert_eq!(growths(|| given[0][2..].try_touching_validity()), 2);
     let touching = shapes::<I>(&[&[&SQUARE, &[[0, 2], [3, 2], [2, 3]]]]);
-    assert_eq!(growths(|| touching[0].try_touching_validity()), 8);
-    assert_eq!(growths(|| touching[0].try_is_valid_with_touches()), 8);
+    assert_eq!(growths(|| touching[0].try_touching_validity()), 10);
+    assert_eq!(growths(|| touching[0].try_is_valid_with_touches()), 10);
     assert_eq!(growths(|| given[0].try_winding_number(about[0])), 0);
     assert_eq!(growths(|| given.try_is_simple()), 0);
     assert_eq!(growths(|| given.try_has_no_spikes()), 0);
