@@ -58,31 +58,35 @@ pub record IsPlacedFault {V : Type 0} (IsFirst : List ℕ → List Point → V �
   pub first : IsFirst (rebased offsets) (points_between points offsets) validity
   pub is : written ≡ place contour (offset offsets 0) validity
 
+-- a notion of a polygon's fault: of its points, the offsets of its contours, the index of the first, and the fault
+abbrev pub FaultNotion : Type 1
+FaultNotion = List Point → List ℕ → ℕ → Fault → Type 0
+
 -- `written` is the first fault of that polygon
-abbrev pub IsFaultOf : List Point → List ℕ → ℕ → Fault → Type 0
+abbrev pub IsFaultOf : FaultNotion
 IsFaultOf = IsPlacedFault IsFirstFault placed
 
 -- `written` is the first fault of that polygon if its contours may touch
-abbrev pub IsTouchingFaultOf : List Point → List ℕ → ℕ → Fault → Type 0
+abbrev pub IsTouchingFaultOf : FaultNotion
 IsTouchingFaultOf = IsPlacedFault IsFirstTouchingFault placed_touching
 
 -- `written` is the first fault, by Is, of polygon k
-abbrev pub IsFaultAt : {P : Type 0} → (List Point → List ℕ → ℕ → Fault → Type 0) → (P → Point) → PolygonArrays P → ℕ → Fault → Type 0
+abbrev pub IsFaultAt : {P : Type 0} → FaultNotion → (P → Point) → PolygonArrays P → ℕ → Fault → Type 0
 IsFaultAt Is point given k = Is (map point given.points) (polygon_offsets given.contours given.shapes k) (offset given.shapes k)
 
 -- the new items begin with the first fault, by Is, of each polygon, in order, and are otherwise unchanged
-pub record AreFaults {P : Type 0} (Is : List Point → List ℕ → ℕ → Fault → Type 0) (point : P → Point) (given : PolygonArrays P) (old new : List Fault) : Type 0 where
+pub record AreFaults {P : Type 0} (Is : FaultNotion) (point : P → Point) (given : PolygonArrays P) (old new : List Fault) : Type 0 where
   pub each : AllZip (IsFaultAt Is point given) (range_with_len 0 (length given.shapes - 1)) (take (length given.shapes - 1) new)
   pub rest : drop (length given.shapes - 1) new ≡ drop (length given.shapes - 1) old
 
 -- 0 and the fault of each polygon, or a code with nothing written
-abbrev pub FaultsAnswer : {P : Type 0} → (List Point → List ℕ → ℕ → Fault → Type 0) → (P → Point) → PolygonArrays P → List Fault → List Fault → ℤ → Type 0
+abbrev pub FaultsAnswer : {P : Type 0} → FaultNotion → (P → Point) → PolygonArrays P → List Fault → List Fault → ℤ → Type 0
 FaultsAnswer Is point given old new (pos zero) = AreFaults Is point given old new
 FaultsAnswer Is point given old new (pos (suc n)) = ⊥
 FaultsAnswer Is point given old new (negsuc n) = (n < 4) × (new ≡ old)
 
 -- what a call returns and writes for the first fault, by Is, of each polygon, and exactly when it returns each code;
 -- without polygons it never returns that for memory
-pub record FindsFaults {P : Type 0} (Is : List Point → List ℕ → ℕ → Fault → Type 0) (width : Width) (point : P → Point) (given : PolygonArrays P) (old new : List Fault) (result : ℤ) : Type 0 where
+pub record FindsFaults {P : Type 0} (Is : FaultNotion) (width : Width) (point : P → Point) (given : PolygonArrays P) (old new : List Fault) (result : ℤ) : Type 0 where
   pub answer : FaultsAnswer Is point given old new result
   pub refuses : Refuses (PartsPolygons (length given.points) given.contours given.shapes) (length given.shapes - 1 ≤ length old) (AreSafeContours width point given.points given.contours) (length given.shapes ≡ 1) result
