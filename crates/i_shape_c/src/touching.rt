@@ -139,27 +139,27 @@ fn touching_fault_of<P: CPoint>(
     rebase(offsets, own);
     Ok(
         match touching_validity_of(alloc, given, &own[..offsets.len()])? {
-            TouchingValidity::Valid => told(VALID, 0, 0),
+            TouchingValidity::Valid => fault_at(VALID, 0, 0),
             TouchingValidity::TooFewPoints { contour: ring } => {
-                told(TOO_FEW_POINTS, contour + ring, 0)
+                fault_at(TOO_FEW_POINTS, contour + ring, 0)
             }
-            TouchingValidity::Contact(it) => told(CONTACT, start + it.first, start + it.second),
+            TouchingValidity::Contact(it) => fault_at(CONTACT, start + it.first, start + it.second),
             TouchingValidity::HoleOutside { contour: hole } => {
-                told(HOLE_OUTSIDE, contour + hole, 0)
+                fault_at(HOLE_OUTSIDE, contour + hole, 0)
             }
             TouchingValidity::HoleWithin {
                 contour: hole,
                 other,
-            } => told(HOLE_WITHIN, contour + hole, contour + other),
+            } => fault_at(HOLE_WITHIN, contour + hole, contour + other),
             TouchingValidity::Disconnected(it) => {
-                told(DISCONNECTED, start + it.first, start + it.second)
+                fault_at(DISCONNECTED, start + it.first, start + it.second)
             }
         },
     )
 }
 
 /// Returns the fault of this kind at these indices.
-fn told(kind: usize, first: usize, second: usize) -> Fault
+fn fault_at(kind: usize, first: usize, second: usize) -> Fault
     ensures { result ≡ fault kind first second }
 {
     Fault {

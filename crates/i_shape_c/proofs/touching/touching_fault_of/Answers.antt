@@ -86,7 +86,7 @@ returns-in-Valid-clause-is g c =
     let own = take (length c.args.offsets.now) c.rebase.new.own in
     let fault = subst (IsFirstTouchingFault own points) c.in-Valid.is c.in_ok-touching_validity_of.ensures.fault in
     let read = points_read g.P.Coordinate.IntNumber.width g.P.Coordinate.IntNumber.value g.P.ContourPoint.point c.args.points.now given (g.P.ContourPoint.points given) c.args.offsets.now (g.P.ContourPoint.each given) c.part-given.ensures.part in
-    rw c.told.ensures (fault_placed IsFirstTouchingFault placed_touching _ points c.args.offsets.now own c.args.contour Valid c.rebase.ensures.written read fault)
+    rw c.fault_at.ensures (fault_placed IsFirstTouchingFault placed_touching _ points c.args.offsets.now own c.args.contour Valid c.rebase.ensures.written read fault)
 
 pub returns-in-TooFewPoints-clause-is : goal.returns-in-TooFewPoints-clause-is
 returns-in-TooFewPoints-clause-is g c =
@@ -95,7 +95,7 @@ returns-in-TooFewPoints-clause-is g c =
     let own = take (length c.args.offsets.now) c.rebase.new.own in
     let fault = subst (IsFirstTouchingFault own points) c.in-TooFewPoints.is c.in_ok-touching_validity_of.ensures.fault in
     let read = points_read g.P.Coordinate.IntNumber.width g.P.Coordinate.IntNumber.value g.P.ContourPoint.point c.args.points.now given (g.P.ContourPoint.points given) c.args.offsets.now (g.P.ContourPoint.each given) c.part-given.ensures.part in
-    rw c.told-in-TooFewPoints.ensures (fault_placed IsFirstTouchingFault placed_touching _ points c.args.offsets.now own c.args.contour (TooFewPoints c.in-TooFewPoints.ring) c.rebase.ensures.written read fault)
+    rw c.fault_at-in-TooFewPoints.ensures (fault_placed IsFirstTouchingFault placed_touching _ points c.args.offsets.now own c.args.contour (TooFewPoints c.in-TooFewPoints.ring) c.rebase.ensures.written read fault)
 
 pub returns-in-Contact-clause-is : goal.returns-in-Contact-clause-is
 returns-in-Contact-clause-is g c =
@@ -104,7 +104,7 @@ returns-in-Contact-clause-is g c =
     let own = take (length c.args.offsets.now) c.rebase.new.own in
     let fault = subst (IsFirstTouchingFault own points) c.in-Contact.is c.in_ok-touching_validity_of.ensures.fault in
     let read = points_read g.P.Coordinate.IntNumber.width g.P.Coordinate.IntNumber.value g.P.ContourPoint.point c.args.points.now given (g.P.ContourPoint.points given) c.args.offsets.now (g.P.ContourPoint.each given) c.part-given.ensures.part in
-    rw c.told-in-Contact.ensures (fault_placed IsFirstTouchingFault placed_touching _ points c.args.offsets.now own c.args.contour (Contact c.in-Contact.it) c.rebase.ensures.written read fault)
+    rw c.fault_at-in-Contact.ensures (fault_placed IsFirstTouchingFault placed_touching _ points c.args.offsets.now own c.args.contour (Contact c.in-Contact.it) c.rebase.ensures.written read fault)
 
 pub returns-in-HoleOutside-clause-is : goal.returns-in-HoleOutside-clause-is
 returns-in-HoleOutside-clause-is g c =
@@ -113,7 +113,7 @@ returns-in-HoleOutside-clause-is g c =
     let own = take (length c.args.offsets.now) c.rebase.new.own in
     let fault = subst (IsFirstTouchingFault own points) c.in-HoleOutside.is c.in_ok-touching_validity_of.ensures.fault in
     let read = points_read g.P.Coordinate.IntNumber.width g.P.Coordinate.IntNumber.value g.P.ContourPoint.point c.args.points.now given (g.P.ContourPoint.points given) c.args.offsets.now (g.P.ContourPoint.each given) c.part-given.ensures.part in
-    rw c.told-in-HoleOutside.ensures (fault_placed IsFirstTouchingFault placed_touching _ points c.args.offsets.now own c.args.contour (HoleOutside c.in-HoleOutside.hole) c.rebase.ensures.written read fault)
+    rw c.fault_at-in-HoleOutside.ensures (fault_placed IsFirstTouchingFault placed_touching _ points c.args.offsets.now own c.args.contour (HoleOutside c.in-HoleOutside.hole) c.rebase.ensures.written read fault)
 
 pub returns-in-HoleWithin-clause-is : goal.returns-in-HoleWithin-clause-is
 returns-in-HoleWithin-clause-is g c =
@@ -122,7 +122,7 @@ returns-in-HoleWithin-clause-is g c =
     let own = take (length c.args.offsets.now) c.rebase.new.own in
     let fault = subst (IsFirstTouchingFault own points) c.in-HoleWithin.is c.in_ok-touching_validity_of.ensures.fault in
     let read = points_read g.P.Coordinate.IntNumber.width g.P.Coordinate.IntNumber.value g.P.ContourPoint.point c.args.points.now given (g.P.ContourPoint.points given) c.args.offsets.now (g.P.ContourPoint.each given) c.part-given.ensures.part in
-    rw c.told-in-HoleWithin.ensures (fault_placed IsFirstTouchingFault placed_touching _ points c.args.offsets.now own c.args.contour (HoleWithin c.in-HoleWithin.hole c.in-HoleWithin.other) c.rebase.ensures.written read fault)
+    rw c.fault_at-in-HoleWithin.ensures (fault_placed IsFirstTouchingFault placed_touching _ points c.args.offsets.now own c.args.contour (HoleWithin c.in-HoleWithin.hole c.in-HoleWithin.other) c.rebase.ensures.written read fault)
 
 pub returns-in-Disconnected-clause-is : goal.returns-in-Disconnected-clause-is
 returns-in-Disconnected-clause-is g c =
@@ -131,4 +131,4 @@ returns-in-Disconnected-clause-is g c =
     let own = take (length c.args.offsets.now) c.rebase.new.own in
     let fault = subst (IsFirstTouchingFault own points) c.in-Disconnected.is c.in_ok-touching_validity_of.ensures.fault in
     let read = points_read g.P.Coordinate.IntNumber.width g.P.Coordinate.IntNumber.value g.P.ContourPoint.point c.args.points.now given (g.P.ContourPoint.points given) c.args.offsets.now (g.P.ContourPoint.each given) c.part-given.ensures.part in
-    rw c.told-in-Disconnected.ensures (fault_placed IsFirstTouchingFault placed_touching _ points c.args.offsets.now own c.args.contour (Disconnected c.in-Disconnected.it) c.rebase.ensures.written read fault)
+    rw c.fault_at-in-Disconnected.ensures (fault_placed IsFirstTouchingFault placed_touching _ points c.args.offsets.now own c.args.contour (Disconnected c.in-Disconnected.it) c.rebase.ensures.written read fault)
