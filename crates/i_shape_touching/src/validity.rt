@@ -45,7 +45,7 @@ pub enum TouchingValidity {
 ///
 /// # Errors
 ///
-/// `AllocError`, if an allocation fails; never if no edges are in contact.
+/// `AllocError`, if an allocation fails; never if no edges are in contact, or if a ring is degenerate.
 pub fn touching_validity_of<P: ContourPoint>(
     alloc: Global,
     points: &[P],
@@ -60,6 +60,8 @@ pub fn touching_validity_of<P: ContourPoint>(
         (read P.Coordinate.value P.points points.now)) }
     ensures memory { OnErr result (NoContact (IsRingContact offsets.now
         (read P.Coordinate.value P.points points.now)) → ⊥) }
+    ensures whole { OnErr result (NoDegenerateRing offsets.now
+        (read P.Coordinate.value P.points points.now)) }
 {
     match validity_of(alloc, points, offsets) {
         Validity::Valid => Ok(TouchingValidity::Valid),

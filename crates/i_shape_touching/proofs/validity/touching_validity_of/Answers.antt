@@ -2,6 +2,7 @@ use Rattle.std.proofs.Common.{◌≡◌, ◌↔◌, OnErr, Ok, Err}
 use Rattle.std.proofs.lemmas.Result.{IfOk-weaker}
 use Rattle.i_shape_core.specs.IntPoint.{contour_of}
 use Rattle.i_shape_contacts.specs.Contacts.{IsRingContact, NoContact}
+use Rattle.i_shape_contacts.specs.Validity.{NoDegenerateRing}
 use Rattle.i_shape_contacts.proofs.Faults.{divides_read}
 use Rattle.i_shape_touching.specs.declared.validity.TouchingValidity.TheVariants.{Valid, TooFewPoints, HoleOutside, HoleWithin}
 use Rattle.i_shape_touching.specs.Touching.{IsTouchingPolygon, IsFirstTouchingFault}
@@ -89,4 +90,11 @@ returns-in-Contact-clause-memory g c =
     elim c.with_contacts.result as (λ r. OnErr r (NoContact (IsRingContact c.args.offsets.now (contour_of g.P.Coordinate.IntNumber.value (g.P.ContourPoint.points c.args.points.now))) → ⊥)) [
       | Ok v ↦ tt
       | Err e ↦ (λ none. none.none _ _ first)
+    ]
+
+pub returns-in-Contact-clause-whole : goal.returns-in-Contact-clause-whole
+returns-in-Contact-clause-whole g c =
+    elim c.with_contacts.result as (λ r. OnErr r (NoDegenerateRing c.args.offsets.now (contour_of g.P.Coordinate.IntNumber.value (g.P.ContourPoint.points c.args.points.now)))) [
+      | Ok v ↦ tt
+      | Err e ↦ c.in-Contact.ensures.fault.no_degenerate
     ]
