@@ -1,4 +1,4 @@
-use Rattle.std.proofs.Common.{◌-◌, arith}
+use Rattle.std.proofs.Common.{◌-◌, arith, rules}
 use Rattle.i_shape_core.proofs.Walks.Prefixes.{range_more}
 use Rattle.i_shape_core.proofs.clean.simplifier.fill.Goals as goal
 
@@ -11,3 +11,6 @@ loop-place-preserved c =
       len = omega (arith, c.push_reserved.ensures.len, c.loop-place.invariant.len);
       room = omega (arith, c.push_reserved.ensures.capacity, c.loop-place.invariant.room);
     }
+
+pub loop-place-init : goal.loop-place-init
+loop-place-init = search rules
