@@ -84,11 +84,23 @@ fn shapes_are_set_and_added_one_by_one(rt: HostRuntime) -> Result<(), Fail> {
     for shape in &given {
         one_by_one.add_shape(shape.as_slice())?;
     }
-    row.holds(one_by_one == buffer.clone()?, "added one by one")?;
+    row.holds(one_by_one == buffer.clone()?, "added one by one")
+}
+
+#[test]
+fn a_shape_without_contours_is_added(rt: HostRuntime) -> Result<(), Fail> {
+    let row = Row::new(rt.alloc(), "no contour");
+    let mut buffer = flat_shapes(&row, POINTS, [RANGES, "0..1 1..3"])?;
     buffer.clear_and_reserve(4, 4, 4)?;
     has_shapes(&row, &buffer, ["", "", "", ""])?;
     buffer.add_shape(&[])?;
-    has_shapes(&row, &buffer, ["", "", "0..0", "/"])?;
+    has_shapes(&row, &buffer, ["", "", "0..0", "/"])
+}
+
+#[test]
+fn contours_of_shapes_are_set(rt: HostRuntime) -> Result<(), Fail> {
+    let row = Row::new(rt.alloc(), "contours of two shapes");
+    let given = texts::shapes(row.alloc, TWO_SHAPES)?;
     let mut contours = FlatContoursBuffer::with_capacity(row.alloc, 4)?;
     row.holds(contours.is_empty(), "a new buffer of contours")?;
     contours.set_with_shapes(given.as_slice())?;
@@ -98,35 +110,49 @@ fn shapes_are_set_and_added_one_by_one(rt: HostRuntime) -> Result<(), Fail> {
     has_contours(&row, &contours, ["", "", ""])
 }
 
+const HOLED: &str = "0 0 9 0 9 9 0 9;3 3 3 6 6 6 6 3;";
+
+const POINTS_OF_HOLED: &str = "0 0 9 0 9 9 0 9 3 3 3 6 6 6 6 3";
+
 #[test]
-fn one_contour_or_shape_is_set_or_added(rt: HostRuntime) -> Result<(), Fail> {
-    let row = Row::new(rt.alloc(), "one contour or shape");
+fn one_contour_is_set_or_added(rt: HostRuntime) -> Result<(), Fail> {
+    let row = Row::new(rt.alloc(), "one contour");
     let mut contours = FlatContoursBuffer::new(row.alloc);
-    let mut shapes = FlatShapesBuffer::new(row.alloc);
     let three = "1 2 3 4 5 6";
-    let given = texts::contour(row.alloc, three)?;
-    contours.set_with_contour(given.as_slice())?;
+    contours.set_with_contour(texts::contour(row.alloc, three)?.as_slice())?;
     has_contours(&row, &contours, [three, "0..3", "1 2 3 4 5 6;"])?;
-    shapes.set_with_contour(given.as_slice())?;
-    has_shapes(&row, &shapes, [three, "0..3", "0..1", "1 2 3 4 5 6;/"])?;
     contours.set_with_contour(&[])?;
     row.holds(contours.is_empty(), "no point")?;
     row.holds(contours.is_single_contour(), "one contour")?;
     has_contours(&row, &contours, ["", "0..0", ";"])?;
-    let points = "0 0 9 0 9 9 0 9 3 3 3 6 6 6 6 3";
-    let holed = "0 0 9 0 9 9 0 9;3 3 3 6 6 6 6 3;";
-    let given = texts::shape(row.alloc, holed)?;
-    contours.set_with_shape(given.as_slice())?;
-    has_contours(&row, &contours, [points, "0..4 4..8", holed])?;
-    shapes.set_with_shape(given.as_slice())?;
-    let wanted = flat_shapes(&row, points, ["0..4 4..8", "0..2"])?;
-    row.holds(shapes == wanted, "a shape")?;
-    row.holds(shapes.can_read_contours(), "ranges that can be read")?;
-    row.holds(shapes.to_contours()? == given, "contours of a shape")?;
     let square = "0 0 4 0 4 4 0 4";
     let mut contours = FlatContoursBuffer::new(row.alloc);
     contours.add_contour(texts::contour(row.alloc, square)?.as_slice())?;
     has_contours(&row, &contours, [square, "0..4", "0 0 4 0 4 4 0 4;"])
+}
+
+#[test]
+fn a_shape_of_one_contour_is_set(rt: HostRuntime) -> Result<(), Fail> {
+    let row = Row::new(rt.alloc(), "a shape of one contour");
+    let mut shapes = FlatShapesBuffer::new(row.alloc);
+    let three = "1 2 3 4 5 6";
+    shapes.set_with_contour(texts::contour(row.alloc, three)?.as_slice())?;
+    has_shapes(&row, &shapes, [three, "0..3", "0..1", "1 2 3 4 5 6;/"])
+}
+
+#[test]
+fn one_shape_is_set(rt: HostRuntime) -> Result<(), Fail> {
+    let row = Row::new(rt.alloc(), "one shape");
+    let given = texts::shape(row.alloc, HOLED)?;
+    let mut contours = FlatContoursBuffer::new(row.alloc);
+    contours.set_with_shape(given.as_slice())?;
+    has_contours(&row, &contours, [POINTS_OF_HOLED, "0..4 4..8", HOLED])?;
+    let mut shapes = FlatShapesBuffer::new(row.alloc);
+    shapes.set_with_shape(given.as_slice())?;
+    let wanted = flat_shapes(&row, POINTS_OF_HOLED, ["0..4 4..8", "0..2"])?;
+    row.holds(shapes == wanted, "a shape")?;
+    row.holds(shapes.can_read_contours(), "ranges that can be read")?;
+    row.holds(shapes.to_contours()? == given, "contours of a shape")
 }
 
 #[test]

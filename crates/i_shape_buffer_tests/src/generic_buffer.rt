@@ -80,9 +80,7 @@ fn has_contours(
     row.equal(buffer.is_empty(), points.is_empty(), "empty")?;
     let wanted = paths(row.alloc, lent)?;
     let wanted = wanted.as_slice();
-    let are_lent = lends_points(buffer, wanted)
-        & lends_points(&buffer, wanted)
-        & lends_points(&&buffer, wanted);
+    let are_lent = lends_points(buffer, wanted) & lends_points(&buffer, wanted);
     row.holds(are_lent, lent)
 }
 
@@ -101,9 +99,7 @@ fn has_shapes(
     row.equal(buffer.is_empty(), points.is_empty(), "empty")?;
     let wanted = paths(row.alloc, lent)?;
     let wanted = wanted.as_slice();
-    let are_lent = lends_points(buffer, wanted)
-        & lends_points(&buffer, wanted)
-        & lends_points(&&buffer, wanted);
+    let are_lent = lends_points(buffer, wanted) & lends_points(&buffer, wanted);
     row.holds(are_lent, lent)
 }
 
@@ -112,8 +108,8 @@ const SIX: &str = "0 0 4 0 4 4 20 20 22 20 22 22";
 const HALVES: &str = "0 0 4 0 4 4;20 20 22 20 22 22;";
 
 #[test]
-fn lists_are_stored_as_handed_in(rt: HostRuntime) -> Result<(), Fail> {
-    let row = Row::new(rt.alloc(), "lists");
+fn contours_are_stored_as_handed_in(rt: HostRuntime) -> Result<(), Fail> {
+    let row = Row::new(rt.alloc(), "contours");
     let points = whole(row.alloc, SIX)?;
     let mut contours = FloatFlatContoursBuffer::new(row.alloc);
     contours.set_flat(points.as_slice(), &[0..3, 3..6])?;
@@ -121,7 +117,13 @@ fn lists_are_stored_as_handed_in(rt: HostRuntime) -> Result<(), Fail> {
     contours.set_with_iter(points.iter().copied(), &[0..3, 3..6])?;
     has_contours(&row, &contours, [SIX, "0..3 3..6", HALVES])?;
     contours.set_flat(&[], &[0..0])?;
-    has_contours(&row, &contours, ["", "0..0", ";"])?;
+    has_contours(&row, &contours, ["", "0..0", ";"])
+}
+
+#[test]
+fn shapes_are_stored_as_handed_in(rt: HostRuntime) -> Result<(), Fail> {
+    let row = Row::new(rt.alloc(), "shapes");
+    let points = whole(row.alloc, SIX)?;
     let mut shapes = FloatFlatShapesBuffer::new(row.alloc);
     shapes.set_flat(points.as_slice(), &[0..3, 3..6], &[0..2])?;
     has_shapes(&row, &shapes, [SIX, "0..3 3..6", "0..2", HALVES])?;
@@ -131,30 +133,44 @@ fn lists_are_stored_as_handed_in(rt: HostRuntime) -> Result<(), Fail> {
     has_shapes(&row, &shapes, ["", "0..0", "", ";"])
 }
 
+const JOINED: &str = "0 0 4 0 4 4 2 2 3 2";
+
+const LISTED: &str = "0 0 4 0 4 4;2 2 3 2;";
+
 #[test]
-fn a_resource_takes_the_place_of_what_was_held(rt: HostRuntime) -> Result<(), Fail> {
-    let row = Row::new(rt.alloc(), "resources");
-    let [joined, listed] = ["0 0 4 0 4 4 2 2 3 2 3 3", "0 0 4 0 4 4;2 2 3 2 3 3;"];
-    let shape = paths(row.alloc, listed)?;
+fn contours_are_set_with_a_resource(rt: HostRuntime) -> Result<(), Fail> {
+    let row = Row::new(rt.alloc(), "contours of a resource");
+    let shape = paths(row.alloc, LISTED)?;
     let mut contours = FloatFlatContoursBuffer::new(row.alloc);
     contours.set_with_resource(&shape)?;
-    has_contours(&row, &contours, [joined, "0..3 3..6", listed])?;
+    has_contours(&row, &contours, [JOINED, "0..3 3..5", LISTED])?;
     row.holds(contours.can_read_contours(), "ranges that can be read")?;
-    row.holds(contours.to_contours()? == shape, "read back")?;
+    row.holds(contours.to_contours()? == shape, "read back")
+}
+
+#[test]
+fn a_shape_is_set_with_a_resource(rt: HostRuntime) -> Result<(), Fail> {
+    let row = Row::new(rt.alloc(), "a shape of a resource");
+    let shape = paths(row.alloc, LISTED)?;
     let mut shapes = FloatFlatShapesBuffer::new(row.alloc);
-    shapes.add_contour(&[WholePoint { x: 1, y: 1 }])?;
     shapes.set_with_resource(&shape)?;
-    has_shapes(&row, &shapes, [joined, "0..3 3..6", "0..2", listed])?;
+    has_shapes(&row, &shapes, [JOINED, "0..3 3..5", "0..2", LISTED])?;
     row.holds(
         shapes.can_read_contours() && shapes.can_read_shapes(),
         "ranges that can be read",
     )?;
     row.holds(shapes.to_contours()? == shape, "read back as contours")?;
     let list = shapes.to_shapes()?;
-    row.holds(list.len() == 1 && list[0] == shape, "read back as a shape")?;
-    let [joined, listed] = ["0 0 4 0 4 4 2 2 3 2", "0 0 4 0 4 4;2 2 3 2;"];
-    shapes.set_with_resource(&paths(row.alloc, listed)?)?;
-    has_shapes(&row, &shapes, [joined, "0..3 3..5", "0..2", listed])?;
+    row.holds(list.len() == 1 && list[0] == shape, "read back as a shape")
+}
+
+#[test]
+fn a_resource_takes_the_place_of_what_was_held(rt: HostRuntime) -> Result<(), Fail> {
+    let row = Row::new(rt.alloc(), "resources");
+    let mut shapes = FloatFlatShapesBuffer::new(row.alloc);
+    shapes.add_contour(&[WholePoint { x: 1, y: 1 }])?;
+    shapes.set_with_resource(&paths(row.alloc, LISTED)?)?;
+    has_shapes(&row, &shapes, [JOINED, "0..3 3..5", "0..2", LISTED])?;
     let no_paths: [Vec<WholePoint>; 0] = [];
     shapes.set_with_resource(&no_paths)?;
     has_shapes(&row, &shapes, ["", "", "", ""])?;
@@ -166,29 +182,33 @@ fn a_resource_takes_the_place_of_what_was_held(rt: HostRuntime) -> Result<(), Fa
 #[test]
 fn contours_are_added_at_the_end(rt: HostRuntime) -> Result<(), Fail> {
     let row = Row::new(rt.alloc(), "contours one by one");
-    let [joined, listed] = ["0 0 4 0 4 4 2 2 3 2", "0 0 4 0 4 4;2 2 3 2;"];
-    let [three, two] = [
-        whole(row.alloc, "0 0 4 0 4 4")?,
-        whole(row.alloc, "2 2 3 2")?,
-    ];
+    let three = whole(row.alloc, "0 0 4 0 4 4")?;
+    let two = whole(row.alloc, "2 2 3 2")?;
     let mut contours = FloatFlatContoursBuffer::with_capacity(row.alloc, 4, 4)?;
     contours.add_contour(three.as_slice())?;
     contours.add_contour_iter(two.iter().copied())?;
-    has_contours(&row, &contours, [joined, "0..3 3..5", listed])?;
+    has_contours(&row, &contours, [JOINED, "0..3 3..5", LISTED])?;
     contours.clear_and_reserve(4, 4)?;
     has_contours(&row, &contours, ["", "", ""])?;
     contours.add_contour(two.as_slice())?;
     contours.add_contour_iter(items(0, 0, None))?;
-    has_contours(&row, &contours, ["2 2 3 2", "0..2 2..2", "2 2 3 2;;"])?;
+    has_contours(&row, &contours, ["2 2 3 2", "0..2 2..2", "2 2 3 2;;"])
+}
+
+#[test]
+fn shapes_of_one_contour_are_added_at_the_end(rt: HostRuntime) -> Result<(), Fail> {
+    let row = Row::new(rt.alloc(), "shapes one by one");
+    let three = whole(row.alloc, "0 0 4 0 4 4")?;
+    let two = whole(row.alloc, "2 2 3 2")?;
     let mut shapes = FloatFlatShapesBuffer::with_capacity(row.alloc, 4, 4, 4)?;
     shapes.add_contour(three.as_slice())?;
     shapes.add_contour_iter(two.iter().copied())?;
-    has_shapes(&row, &shapes, [joined, "0..3 3..5", "0..1 1..2", listed])?;
+    has_shapes(&row, &shapes, [JOINED, "0..3 3..5", "0..1 1..2", LISTED])?;
     shapes.clear_and_reserve(4, 4, 4)?;
     has_shapes(&row, &shapes, ["", "", "", ""])?;
     shapes.add_contour(three.as_slice())?;
     shapes.add_contour(two.as_slice())?;
-    has_shapes(&row, &shapes, [joined, "0..3 3..5", "0..1 1..2", listed])
+    has_shapes(&row, &shapes, [JOINED, "0..3 3..5", "0..1 1..2", LISTED])
 }
 
 /// Ranges of two points, whether each can be read, and the paths that are lent: ranges that can't be read are skipped.

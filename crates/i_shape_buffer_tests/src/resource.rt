@@ -111,110 +111,131 @@ fn some_paths<P: Copy>(alloc: Global, path: &[P]) -> Result<[Vec<P>; 3], Fail> {
     Ok([path.to_vec(alloc)?, Vec::new(alloc), rest])
 }
 
-/// An array, the vector of its items and a slice of that, each behind one reference, two and three, lend these paths.
+/// An array, the vector of its items and a slice of that, each behind one reference and two, lend these paths.
 macro_rules! lend_alike {
-    ($lends:ident, $row:ident, $array:ident, $wanted:ident) => {
-        let lent = $lends(&$array, &$wanted)
-            & $lends(&&$array, &$wanted)
-            & $lends(&&&$array, &$wanted);
+    ($lends:ident, $row:ident, $array:ident, $wanted:ident) => {{
+        let lent = $lends(&$array, &$wanted) & $lends(&&$array, &$wanted);
         $row.holds(lent, "an array")?;
         let vector = Vec::from_array($row.alloc, $array)?;
         let slice = vector.as_slice();
         let lent = $lends(&vector, &$wanted)
             & $lends(&&vector, &$wanted)
-            & $lends(&&&vector, &$wanted)
             & $lends(slice, &$wanted)
-            & $lends(&slice, &$wanted)
-            & $lends(&&slice, &$wanted);
-        $row.holds(lent, "a vector")?;
-    };
+            & $lends(&slice, &$wanted);
+        $row.holds(lent, "a vector")
+    }};
 }
 
-/// Two points lend these paths in lists of shapes, of which some are empty, and in lists of paths.
-macro_rules! lend_lists {
-    ($lends:ident, $row:ident, $points:expr) => {
+/// Lists of shapes, of which some are empty, lend their paths.
+macro_rules! lend_shapes {
+    ($lends:ident, $row:ident, $points:ident) => {{
         let shapes = some_shapes($row.alloc, $points)?;
         let wanted = paths_of_some_shapes($row.alloc, $points)?;
-        lend_alike!($lends, $row, shapes, wanted);
-        let paths = some_paths($row.alloc, $points)?;
-        let wanted = some_paths($row.alloc, $points)?;
-        lend_alike!($lends, $row, paths, wanted);
-        let none = &wanted.as_slice()[..0];
-        $row.holds($lends(none, none), "no path")?;
-    };
+        lend_alike!($lends, $row, shapes, wanted)
+    }};
 }
 
-/// Two points lend these paths as one path.
+/// Lists of paths lend them, and no path.
+macro_rules! lend_paths {
+    ($lends:ident, $row:ident, $points:ident) => {{
+        let wanted = some_paths($row.alloc, $points)?;
+        let none = &wanted.as_slice()[..0];
+        $row.holds($lends(none, none), "no path")?;
+        let paths = some_paths($row.alloc, $points)?;
+        lend_alike!($lends, $row, paths, wanted)
+    }};
+}
+
+/// The points lend themselves as one path, and no point.
 macro_rules! lend_points {
-    ($lends:ident, $row:ident, $points:ident) => {
+    ($lends:ident, $row:ident, $points:ident) => {{
         let wanted = vec![in $row.alloc; Vec::new($row.alloc)]?;
         $row.holds($lends(&$points.as_slice()[..0], &wanted), "no point")?;
         let wanted = vec![in $row.alloc; $points.to_vec($row.alloc)?]?;
-        lend_alike!($lends, $row, $points, wanted);
-    };
+        lend_alike!($lends, $row, $points, wanted)
+    }};
 }
 
-/// A list of the points, of no point and of the last point, all borrowed, lends these three, behind one reference, two
-/// and three.
+/// Lists of the points, of no point and of the last point, all borrowed, lend these three.
 macro_rules! lend_borrowed {
-    ($lends:ident, $lends_vector:ident, $row:ident, $points:ident) => {
+    ($lends:ident, $lends_vector:ident, $row:ident, $points:ident) => {{
         let wanted = some_paths($row.alloc, $points)?;
         let array = [$points, &$points[..0], &$points[1.min($points.len())..]];
         let slice = array.as_slice();
         let lent = $lends(&array, &wanted)
             & $lends(&&array, &wanted)
-            & $lends(&&&array, &wanted)
             & $lends(slice, &wanted)
-            & $lends(&slice, &wanted)
-            & $lends(&&slice, &wanted);
+            & $lends(&slice, &wanted);
         $row.holds(lent, "an array of slices")?;
         let vector = Vec::from_array($row.alloc, array)?;
-        $row.holds($lends_vector(&vector, &wanted), "a vector of slices")?;
-    };
+        $row.holds($lends_vector(&vector, &wanted), "a vector of slices")
+    }};
 }
 
-/// Whether a vector of borrowed paths lends them, behind one reference, two and three.
+/// Whether a vector of borrowed paths lends them, behind one reference and two.
 fn lends_vector<I: IntNumber>(vector: &Vec<&[IntPoint<I>]>, wanted: &[Vec<IntPoint<I>>]) -> bool {
-    lends(vector, wanted) & lends(&vector, wanted) & lends(&&vector, wanted)
+    lends(vector, wanted) & lends(&vector, wanted)
 }
 
 fn lends_points_vector(vector: &Vec<&[WholePoint]>, wanted: &[Vec<WholePoint>]) -> bool {
-    lends_points(vector, wanted) & lends_points(&vector, wanted) & lends_points(&&vector, wanted)
+    lends_points(vector, wanted) & lends_points(&vector, wanted)
 }
 
-fn borrowed_lend<I: IntNumber>(row: &Row<'_>, points: &[IntPoint<I>]) -> Result<(), Fail> {
-    lend_borrowed!(lends, lends_vector, row, points);
-    Ok(())
+fn shapes_lend<I: IntNumber>(row: &Row<'_>, points: &[IntPoint<I>]) -> Result<(), Fail> {
+    lend_shapes!(lends, row, points)
 }
 
-fn borrowed_points_lend(row: &Row<'_>, points: &[WholePoint]) -> Result<(), Fail> {
-    lend_borrowed!(lends_points, lends_points_vector, row, points);
-    Ok(())
+fn paths_lend<I: IntNumber>(row: &Row<'_>, points: &[IntPoint<I>]) -> Result<(), Fail> {
+    lend_paths!(lends, row, points)
 }
 
 fn points_lend<I: IntNumber>(row: &Row<'_>, points: [IntPoint<I>; 2]) -> Result<(), Fail> {
+    lend_points!(lends, row, points)
+}
+
+fn borrowed_lend<I: IntNumber>(row: &Row<'_>, points: &[IntPoint<I>]) -> Result<(), Fail> {
+    lend_borrowed!(lends, lends_vector, row, points)
+}
+
+fn all_lend<I: IntNumber>(row: &Row<'_>, points: [IntPoint<I>; 2]) -> Result<(), Fail> {
+    shapes_lend(row, points.as_slice())?;
+    paths_lend(row, points.as_slice())?;
     borrowed_lend(row, points.as_slice())?;
-    lend_lists!(lends, row, points.as_slice());
-    lend_points!(lends, row, points);
-    Ok(())
+    points_lend(row, points)
 }
 
 #[test]
 fn lists_of_each_width_lend_their_paths(rt: HostRuntime) -> Result<(), Fail> {
     let row = &Row::new(rt.alloc(), "two points");
-    points_lend(row, [IntPoint::new(7i16, 1), IntPoint::new(2, -3)])?;
-    points_lend(row, [IntPoint::new(7i32, 1), IntPoint::new(2, -3)])?;
-    points_lend(row, [IntPoint::new(7i64, 1), IntPoint::new(2, -3)])
+    all_lend(row, [IntPoint::new(7i16, 1), IntPoint::new(2, -3)])?;
+    all_lend(row, [IntPoint::new(7i32, 1), IntPoint::new(2, -3)])?;
+    all_lend(row, [IntPoint::new(7i64, 1), IntPoint::new(2, -3)])
+}
+
+fn shapes_of_points_lend(row: &Row<'_>, points: &[WholePoint]) -> Result<(), Fail> {
+    lend_shapes!(lends_points, row, points)
+}
+
+fn paths_of_points_lend(row: &Row<'_>, points: &[WholePoint]) -> Result<(), Fail> {
+    lend_paths!(lends_points, row, points)
+}
+
+fn whole_points_lend(row: &Row<'_>, points: [WholePoint; 2]) -> Result<(), Fail> {
+    lend_points!(lends_points, row, points)
+}
+
+fn borrowed_points_lend(row: &Row<'_>, points: &[WholePoint]) -> Result<(), Fail> {
+    lend_borrowed!(lends_points, lends_points_vector, row, points)
 }
 
 #[test]
 fn lists_of_other_points_lend_their_paths(rt: HostRuntime) -> Result<(), Fail> {
     let row = &Row::new(rt.alloc(), "two points of the tests' own");
     let points = [WholePoint { x: 7, y: 1 }, WholePoint { x: 2, y: -3 }];
+    shapes_of_points_lend(row, points.as_slice())?;
+    paths_of_points_lend(row, points.as_slice())?;
     borrowed_points_lend(row, points.as_slice())?;
-    lend_lists!(lends_points, row, points.as_slice());
-    lend_points!(lends_points, row, points);
-    Ok(())
+    whole_points_lend(row, points)
 }
 
 /// The points are safe, or not: as a contour, as a shape of it, as a list of that shape.
@@ -300,36 +321,40 @@ fn each_path_decides_whether_a_resource_is_safe(rt: HostRuntime) -> Result<(), F
     )
 }
 
-/// Both buffers lend each range of contours, whatever the ranges of shapes are.
+/// A buffer of contours lends each of its ranges.
 #[test]
-fn integer_buffers_lend_each_range(rt: HostRuntime) -> Result<(), Fail> {
+fn integer_contours_lend_each_range(rt: HostRuntime) -> Result<(), Fail> {
     let row = &Row::new(rt.alloc(), "three ranges");
-    let points = texts::contour(row.alloc, "1 2 3 4")?;
-    let ranges = texts::ranges(row.alloc, "1..2 0..0 0..2")?;
-    let wanted = texts::shape(row.alloc, "3 4;;1 2 3 4;")?;
     let contours = FlatContoursBuffer {
-        points: points.as_slice().to_vec(row.alloc)?,
-        ranges: Vec::from_clones(row.alloc, ranges.as_slice())?,
+        points: texts::contour(row.alloc, "1 2 3 4")?,
+        ranges: texts::ranges(row.alloc, "1..2 0..0 0..2")?,
     };
-    let shapes = FlatShapesBuffer {
-        points,
-        contour_ranges: ranges,
-        shape_ranges: Vec::new(row.alloc),
-    };
-    row.holds(
-        contours.can_read_contours() && shapes.can_read_contours(),
-        "ranges that can be read",
-    )?;
+    row.holds(contours.can_read_contours(), "ranges that can be read")?;
+    let wanted = texts::shape(row.alloc, "3 4;;1 2 3 4;")?;
     let wanted = wanted.as_slice();
-    let lent = lends(&contours, wanted) & lends(&&contours, wanted) & lends(&&&contours, wanted);
+    let lent = lends(&contours, wanted) & lends(&&contours, wanted);
     row.holds(lent, "contours")?;
-    let lent = lends(&shapes, wanted) & lends(&&shapes, wanted) & lends(&&&shapes, wanted);
-    row.holds(lent, "shapes")?;
     let mut walk = (&contours).iter_paths();
     row.equal((walk.len(), walk.size_hint()), (3, (3, Some(3))), "a walk")?;
     walk.next();
     row.equal(walk.len(), 2, "a walk after a path")?;
-    row.equal(walk.count(), 2, "a walk after a path, counted")?;
+    row.equal(walk.count(), 2, "a walk after a path, counted")
+}
+
+/// A buffer of shapes lends each of its ranges of contours, whatever those of shapes are.
+#[test]
+fn integer_shapes_lend_each_range(rt: HostRuntime) -> Result<(), Fail> {
+    let row = &Row::new(rt.alloc(), "three ranges of contours");
+    let shapes = FlatShapesBuffer {
+        points: texts::contour(row.alloc, "1 2 3 4")?,
+        contour_ranges: texts::ranges(row.alloc, "1..2 0..0 0..2")?,
+        shape_ranges: Vec::new(row.alloc),
+    };
+    row.holds(shapes.can_read_contours(), "ranges that can be read")?;
+    let wanted = texts::shape(row.alloc, "3 4;;1 2 3 4;")?;
+    let wanted = wanted.as_slice();
+    let lent = lends(&shapes, wanted) & lends(&&shapes, wanted);
+    row.holds(lent, "shapes")?;
     let mut walk = (&shapes).iter_paths();
     row.equal(walk.len(), 3, "a walk of shapes")?;
     walk.next();
@@ -392,39 +417,62 @@ macro_rules! count {
     }};
 }
 
-/// The numbers of paths left: of a path, of a shape, and of lists of shapes, of which some may be empty.
+/// The numbers of paths left: of a path, of a shape, and of a list of shapes.
 macro_rules! count_each {
-    ($row:ident, $path:ident) => {
+    ($row:ident, $path:ident) => {{
         let of_path = count!($path, [next]);
         let two = vec![in $row.alloc; $path.to_vec($row.alloc)?, $path.to_vec($row.alloc)?]?;
         let of_shape = count!(two.as_slice(), [next]);
         let shapes = [two, vec![in $row.alloc; $path.to_vec($row.alloc)?]?];
         let of_list = count!(&shapes, [next]);
+        $row.equal([of_path, of_shape, of_list], [0, 1, 2], "paths left")
+    }};
+}
+
+/// The numbers of paths left of a list of shapes, of which some are empty.
+macro_rules! count_some {
+    ($row:ident, $path:ident) => {{
         let shapes = some_shapes($row.alloc, $path)?;
         let of_some = [
             count!(&shapes, []),
             count!(&shapes, [next, next]),
             count!(&shapes, [next, next, next, next]),
         ];
-        let counts = (of_path, of_shape, of_list, of_some);
-        $row.equal(counts, (0, 1, 2, [4, 2, 0]), "paths left")?;
-    };
+        $row.equal(of_some, [4, 2, 0], "paths left of shapes")
+    }};
 }
 
-fn counts_paths_left<I: IntNumber>(row: &Row<'_>, path: &[IntPoint<I>]) -> Result<(), Fail> {
-    count_each!(row, path);
-    Ok(())
+fn counts_each<I: IntNumber>(row: &Row<'_>, path: &[IntPoint<I>]) -> Result<(), Fail> {
+    count_each!(row, path)
+}
+
+fn counts_some<I: IntNumber>(row: &Row<'_>, path: &[IntPoint<I>]) -> Result<(), Fail> {
+    count_some!(row, path)
 }
 
 #[test]
 fn paths_left_are_counted(rt: HostRuntime) -> Result<(), Fail> {
     let row = &Row::new(rt.alloc(), "whole numbers");
-    counts_paths_left(row, &[IntPoint::new(7i16, 1)])?;
-    counts_paths_left(row, &[IntPoint::new(7i32, 1)])?;
-    counts_paths_left(row, &[IntPoint::new(7i64, 1)])?;
+    counts_each(row, &[IntPoint::new(7i16, 1)])?;
+    counts_each(row, &[IntPoint::new(7i32, 1)])?;
+    counts_each(row, &[IntPoint::new(7i64, 1)])?;
+    counts_some(row, &[IntPoint::new(7i16, 1)])?;
+    counts_some(row, &[IntPoint::new(7i32, 1)])?;
+    counts_some(row, &[IntPoint::new(7i64, 1)])
+}
+
+#[test]
+fn paths_left_of_other_points_are_counted(rt: HostRuntime) -> Result<(), Fail> {
     let row = Row::new(rt.alloc(), "points of the tests' own");
     let points = [WholePoint { x: 7, y: 1 }];
     let path = points.as_slice();
-    count_each!(row, path);
-    Ok(())
+    count_each!(row, path)
+}
+
+#[test]
+fn paths_left_of_some_shapes_are_counted(rt: HostRuntime) -> Result<(), Fail> {
+    let row = Row::new(rt.alloc(), "shapes of the tests' own points");
+    let points = [WholePoint { x: 7, y: 1 }];
+    let path = points.as_slice();
+    count_some!(row, path)
 }

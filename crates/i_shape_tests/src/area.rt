@@ -1,15 +1,19 @@
 //! Areas of shapes, of lists and of what is left of an iterator, and contours at the bounds of each width.
 
+ghost use Rattle.std.specs.Prelude.{◌<◌, length};
+ghost use Rattle.i_shape.specs.IntPoint.{contour_of, IsSafeContour};
+
 use i_shape::int::IntPoint;
 use i_shape::int::area::{Area, IteratorArea, UnsafeArea};
 use i_shape::int::count::PointsCount;
 use i_shape::int::despike::DeSpikeContour;
 use i_shape::int::path::ContourExtension;
-use i_shape::int::shape::IntShape;
+use i_shape::int::shape::{IntContour, IntShapes};
 use i_shape::int::simple::SimpleContour;
-use i_shape::{IntNumber, int_path, int_shape};
+use i_shape::{IntNumber, int_shape, int_shapes};
 use i_shape_test_data::given::contour;
 use i_shape_test_data::row::Row;
+use std::alloc::Global;
 use std::test::Fail;
 
 #[test]
@@ -37,26 +41,33 @@ fn an_advanced_iterator_sums_what_is_left(rt: HostRuntime) -> Result<(), Fail> {
 }
 
 #[test]
-fn contours_are_added_up_before_they_are_halved(rt: HostRuntime) -> Result<(), Fail> {
+fn a_hole_is_subtracted(rt: HostRuntime) -> Result<(), Fail> {
     let row = Row::new(rt.alloc(), "a square with a hole");
     let holed = int_shape![
         row.alloc; [[0, 0], [10, 0], [10, 10], [0, 10]], [[2, 2], [2, 4], [4, 4], [4, 2]]
     ]?;
     let holed = holed.as_slice();
-    row.equal([holed.area_two(), holed.area()], [192_i64, 96], "areas")?;
-    row.equal(holed.points_count(), 8, "points")?;
+    let areas = [holed.area_two(), holed.area()];
+    row.equal((areas, holed.points_count()), ([192_i64, 96], 8), "areas")
+}
+
+#[test]
+fn contours_are_added_up_before_they_are_halved(rt: HostRuntime) -> Result<(), Fail> {
     let row = Row::new(rt.alloc(), "two triangles");
     let shape = int_shape![row.alloc; [[0, 0], [1, 0], [0, 1]], [[0, 0], [1, 0], [0, 1]]]?;
     let shape = shape.as_slice();
-    row.equal([shape.area_two(), shape.area()], [2_i64, 1], "a shape")?;
-    let [one, other] = [
-        int_path![row.alloc; [0, 0], [1, 0], [0, 1]]?,
-        int_path![row.alloc; [0, 0], [1, 0], [0, 1]]?,
-    ];
-    let list: [IntShape<i32>; 2] = [vec![in row.alloc; one]?, vec![in row.alloc; other]?];
+    let areas = [shape.area_two(), shape.area()];
+    row.equal((areas, shape.points_count()), ([2_i64, 1], 6), "areas")
+}
+
+#[test]
+fn shapes_are_added_up_before_they_are_halved(rt: HostRuntime) -> Result<(), Fail> {
+    let row = Row::new(rt.alloc(), "a list of two triangles");
+    let list: IntShapes<i32> =
+        int_shapes![row.alloc; [[[0, 0], [1, 0], [0, 1]]], [[[0, 0], [1, 0], [0, 1]]]]?;
     let list = list.as_slice();
-    row.equal([list.area_two(), list.area()], [2_i64, 1], "a list")?;
-    row.equal(list.points_count(), 6, "points of a list")
+    let areas = [list.area_two(), list.area()];
+    row.equal((areas, list.points_count()), ([2_i64, 1], 6), "areas")
 }
 
 /// The contour, a square about zero that is wound so often, has these areas, and is its own end and form. Wound twice,
@@ -67,31 +78,58 @@ fn winds<I: IntNumber>(
     areas: [I::Wide; 2],
 ) -> Result<(), Fail> {
     let given = contour(row.alloc, points)?;
-    let middle = IntPoint::new(I::ZERO, I::ZERO);
-    row.holds(!given.is_empty() && middle.is_in_safe_range(), "a point")?;
     let points = given.as_slice();
+    row.holds(!points.is_empty(), "a point")?;
     row.holds([points.area_two(), points.area()] == areas, "areas")?;
+    winds_about_zero(row, points, times)?;
+    row.holds(points.is_simple(), "simple")?;
+    row.equal(
+        is_left(row.alloc, points)?,
+        [true; 3],
+        "its own end, its own form, no spike",
+    )
+}
+
+/// The contour winds so often about zero, and contains it if it winds once.
+fn winds_about_zero<I: IntNumber>(
+    row: &Row<'_>,
+    points: &[IntPoint<I>],
+    times: isize,
+) -> Result<(), Fail>
+    requires safe { IsSafeContour I.width (contour_of I.value points.now) }
+    requires some { 0 < length points.now }
+{
+    let zero = IntPoint::new(I::ZERO, I::ZERO);
+    row.holds(zero.is_in_safe_range(), "a point")?;
     let told = (
         points.is_clockwise_ordered(),
-        points.contains_point(middle),
-        points.winding_number(middle),
+        points.contains_point(zero),
+        points.winding_number(zero),
     );
     row.equal(
         told,
         (times == 2, times == 1, times),
         "clockwise, contains, winds",
-    )?;
-    row.holds(points.is_simple(), "simple")?;
-    let kept = points.simplified(row.alloc)?;
-    let form = points.canonical(row.alloc)?;
-    let blunt = given.despiked_contour(row.alloc)?;
-    let wanted = Some(&given);
-    let is_kept = [
-        kept.as_ref() == wanted,
-        form.as_ref() == wanted,
-        blunt.as_ref() == wanted,
-    ];
-    row.equal(is_kept, [true; 3], "its own end, its own form, no spike")
+    )
+}
+
+/// Whether the simplified contour, the canonical one and the despiked one are the contour itself.
+fn is_left<I: IntNumber>(alloc: Global, points: &[IntPoint<I>]) -> Result<[bool; 3], Fail>
+    requires { IsSafeContour I.width (contour_of I.value points.now) }
+{
+    Ok([
+        is_same(points.simplified(alloc)?, points),
+        is_same(points.canonical(alloc)?, points),
+        is_same(points.despiked_contour(alloc)?, points),
+    ])
+}
+
+/// Whether a cleaner has left these points.
+fn is_same<I: IntNumber>(left: Option<IntContour<I>>, points: &[IntPoint<I>]) -> bool {
+    let Some(contour) = left else {
+        return false;
+    };
+    contour.as_slice() == points
 }
 
 /// The square from `-high` to `high` has these areas, once and twice round.

@@ -20,30 +20,45 @@ fn lists_of_any_kind(rt: HostRuntime) -> Result<(), Fail> {
     row.equal(lists[0].as_slice(), &[1, 2], "paths, the first of two")
 }
 
+/// The macro has written the contour that this text lists.
+fn is_contour(row: &Row<'_>, found: IntContour<i32>, wanted: &str) -> Result<(), Fail> {
+    row.holds(found == texts::contour(row.alloc, wanted)?, "int_path")
+}
+
+/// The macro has written the shape that this text lists.
+fn is_shape(row: &Row<'_>, found: IntShape<i32>, wanted: &str) -> Result<(), Fail> {
+    row.holds(found == texts::shape(row.alloc, wanted)?, "int_shape")
+}
+
+/// The macro has written the list of shapes that this text lists.
+fn is_list(row: &Row<'_>, found: IntShapes<i32>, wanted: &str) -> Result<(), Fail> {
+    row.holds(found == texts::shapes(row.alloc, wanted)?, "int_shapes")
+}
+
 #[test]
-fn contours_and_shapes_of_whole_numbers(rt: HostRuntime) -> Result<(), Fail> {
+fn contours_of_whole_numbers(rt: HostRuntime) -> Result<(), Fail> {
     let row = Row::new(rt.alloc(), "of points");
     let path: IntContour<i16> = int_path![row.alloc;]?;
     row.holds(path.is_empty(), "int_path, none")?;
-    let path: IntContour<i32> = int_path![row.alloc; [0, 1], [2, 3],]?;
-    row.holds(
-        path == texts::contour(row.alloc, "0 1 2 3")?,
-        "int_path, two",
-    )?;
+    is_contour(&row, int_path![row.alloc; [0, 1], [2, 3],]?, "0 1 2 3")
+}
+
+#[test]
+fn shapes_of_whole_numbers(rt: HostRuntime) -> Result<(), Fail> {
+    let row = Row::new(rt.alloc(), "of contours");
     let shape: IntShape<i32> = int_shape![row.alloc;]?;
     row.holds(shape.is_empty(), "int_shape, none")?;
-    let shape: IntShape<i32> = int_shape![row.alloc; [[0, 0], [1, 0],], [[2, 2]],]?;
-    row.holds(
-        shape == texts::shape(row.alloc, "0 0 1 0;2 2;")?,
-        "int_shape",
-    )?;
+    let shape = int_shape![row.alloc; [[0, 0], [1, 0],], [[2, 2]],]?;
+    is_shape(&row, shape, "0 0 1 0;2 2;")
+}
+
+#[test]
+fn lists_of_shapes_of_whole_numbers(rt: HostRuntime) -> Result<(), Fail> {
+    let row = Row::new(rt.alloc(), "of shapes");
     let list: IntShapes<i32> = int_shapes![row.alloc;]?;
     row.holds(list.is_empty(), "int_shapes, none")?;
-    let list: IntShapes<i32> = int_shapes![row.alloc; [[[0, 0], [1, 0], [1, 1],],], [],]?;
-    row.holds(
-        list == texts::shapes(row.alloc, "0 0 1 0 1 1;//")?,
-        "shapes",
-    )
+    let list = int_shapes![row.alloc; [[[0, 0], [1, 0], [1, 1],],], [],]?;
+    is_list(&row, list, "0 0 1 0 1 1;//")
 }
 
 fn next(count: &mut i32) -> i32 {
@@ -52,24 +67,26 @@ fn next(count: &mut i32) -> i32 {
 }
 
 #[test]
-fn expressions_are_evaluated_from_left_to_right(rt: HostRuntime) -> Result<(), Fail> {
+fn members_are_evaluated_from_left_to_right(rt: HostRuntime) -> Result<(), Fail> {
     let row = Row::new(rt.alloc(), "expressions");
     let mut count = 0;
     let lists = paths![row.alloc; [10, next(&mut count)], [next(&mut count)]]?;
     row.holds(lists.len() == 2, "paths")?;
     row.equal(lists[0].as_slice(), &[10, 1], "members of a path")?;
-    row.equal(lists[1].as_slice(), &[2], "members of the next")?;
+    row.equal(lists[1].as_slice(), &[2], "members of the next")
+}
+
+#[test]
+fn coordinates_are_evaluated_from_left_to_right(rt: HostRuntime) -> Result<(), Fail> {
+    let row = Row::new(rt.alloc(), "expressions");
     let mut count = 0;
     let path = int_path![row.alloc; [next(&mut count), next(&mut count)], [next(&mut count), 0]]?;
-    row.holds(path == texts::contour(row.alloc, "1 2 3 0")?, "int_path")?;
+    is_contour(&row, path, "1 2 3 0")?;
     let mut count = 0;
-    let list: IntShapes<i32> = int_shapes![
+    let list = int_shapes![
         row.alloc;
         [[[next(&mut count), 0]], [[next(&mut count), 0]]],
         [[[next(&mut count), 0]]]
     ]?;
-    row.holds(
-        list == texts::shapes(row.alloc, "1 0;2 0;/3 0;/")?,
-        "shapes",
-    )
+    is_list(&row, list, "1 0;2 0;/3 0;/")
 }

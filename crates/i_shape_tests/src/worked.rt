@@ -1,5 +1,8 @@
 //! Worked contours at 32 bits, and what each call returns for them.
 
+ghost use Rattle.std.specs.Int.{w32};
+ghost use Rattle.i_shape.specs.IntPoint.{contour_of, IsSafeContour};
+
 use i_shape::int::IntPoint;
 use i_shape::int::area::{Area, IteratorArea, UnsafeArea};
 use i_shape::int::despike::{DeSpike, DeSpikeContour};
@@ -227,29 +230,30 @@ fn is_turned(alloc: Global, points: &[IntPoint<i32>], ring: &[Pair]) -> Result<b
     Ok(is_rotation(pairs(alloc, points)?.as_slice(), ring))
 }
 
+/// What is left of the contour without zero turns is the ring.
+fn simplifies_to(row: &Row<'_>, points: &[IntPoint<i32>], ring: &[Pair]) -> Result<(), Fail>
+    requires { IsSafeContour w32 (contour_of (λ z. z) points.now) }
+{
+    let kept = points.simplified(row.alloc)?.ok_or("it collapsed")?;
+    row.holds(is_turned(row.alloc, kept.as_slice(), ring)?, "the ring")
+}
+
+/// The canonical form of the contour is the ring.
+fn has_ring_as_form(row: &Row<'_>, points: &[IntPoint<i32>], ring: &[Pair]) -> Result<(), Fail>
+    requires { IsSafeContour w32 (contour_of (λ z. z) points.now) }
+{
+    let form = points.canonical(row.alloc)?.ok_or("it collapsed")?;
+    let form = pairs(row.alloc, form.as_slice())?;
+    row.holds(form.as_slice() == ring, "the form")
+}
+
 /// The contour leaves the ring by both cleaners, and has it as its form.
 fn leaves_ring(row: &Row<'_>, list: &[Pair], ring: &[Pair]) -> Result<Vec<Pair>, Fail> {
     let given = contour::<i32>(row.alloc, list)?;
-    let kept = given
-        .as_slice()
-        .simplified(row.alloc)?
-        .ok_or("it collapsed")?;
-    row.holds(is_turned(row.alloc, kept.as_slice(), ring)?, "the ring")?;
-    let form = given
-        .as_slice()
-        .canonical(row.alloc)?
-        .ok_or("it collapsed")?;
-    let form = pairs(row.alloc, form.as_slice())?;
-    row.holds(form.as_slice() == ring, "the form")?;
+    simplifies_to(row, given.as_slice(), ring)?;
+    has_ring_as_form(row, given.as_slice(), ring)?;
     let despiked = given.despiked_contour(row.alloc)?.ok_or("it collapsed")?;
-    let left = despiked
-        .as_slice()
-        .simplified(row.alloc)?
-        .ok_or("it collapsed")?;
-    row.holds(
-        is_turned(row.alloc, left.as_slice(), ring)?,
-        "the despiker's ring",
-    )?;
+    simplifies_to(row, despiked.as_slice(), ring)?;
     let survivors = pairs(row.alloc, despiked.as_slice())?;
     row.holds(!has_back_vertex(survivors.as_slice()), "a spike is left")?;
     Ok(survivors)

@@ -54,7 +54,7 @@ const STD: [&str; 2] = ["fmt", "io"];
 /// The attributes that Rust has too.
 const ATTRIBUTES: [&str; 5] = ["cfg", "derive", "inline", "repr", "test"];
 
-const MACROS: [&str; 28] = [
+const MACROS: [&str; 30] = [
     "assert",
     "assert_eq",
     "call",
@@ -62,6 +62,7 @@ const MACROS: [&str; 28] = [
     "cleans",
     "count",
     "count_each",
+    "count_some",
     "format",
     "int_path",
     "int_shape",
@@ -69,8 +70,9 @@ const MACROS: [&str; 28] = [
     "lend",
     "lend_alike",
     "lend_borrowed",
-    "lend_lists",
+    "lend_paths",
     "lend_points",
+    "lend_shapes",
     "matches",
     "on",
     "path",
