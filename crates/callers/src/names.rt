@@ -285,26 +285,36 @@ pub fn change_first<I: IntNumber>(buffer: &mut FlatContoursBuffer<I>, point: Int
     true
 }
 
-/// Returns buffers with room, filled again and again, and copied.
-pub fn filled<I: IntNumber>(
+/// Returns a buffer of contours with room, filled again and again, and copied.
+pub fn filled_contours<I: IntNumber>(
     alloc: Global,
     contour: &[IntPoint<I>],
     shape: &[IntContour<I>],
     shapes: &[IntShape<I>],
-) -> Result<(FlatContoursBuffer<I>, FlatShapesBuffer<I>), ShapeError> {
+) -> Result<FlatContoursBuffer<I>, ShapeError> {
     let mut contours = FlatContoursBuffer::with_capacity(alloc, contour.len())?;
     contours.set_with_contour(contour)?;
     contours.set_with_shape(shape)?;
     contours.set_with_shapes(shapes)?;
     contours.clear_and_reserve(contour.len(), 1)?;
     contours.add_contour(contour)?;
+    contours.clone()
+}
+
+/// Returns a buffer of shapes, filled in the same way.
+pub fn filled_shapes<I: IntNumber>(
+    alloc: Global,
+    contour: &[IntPoint<I>],
+    shape: &[IntContour<I>],
+    shapes: &[IntShape<I>],
+) -> Result<FlatShapesBuffer<I>, ShapeError> {
     let mut buffer = FlatShapesBuffer::with_capacity(alloc, contour.len(), 1, 1)?;
     buffer.set_with_contour(contour)?;
     buffer.set_with_shape(shape)?;
     buffer.set_with_shapes(shapes)?;
     buffer.clear_and_reserve(contour.len(), 1, 1)?;
     buffer.add_shape(shape)?;
-    Ok((contours.clone()?, buffer.clone()?))
+    buffer.clone()
 }
 
 /// Returns what is read back of two buffers, or `None` if one can't be read.
@@ -355,13 +365,13 @@ pub struct Place {
 
 impl ShapePoint for Place {}
 
-/// Returns buffers over points of any type, filled from slices, iterators and a resource.
-pub fn gathered<P: ShapePoint + Drop>(
+/// Returns a buffer of contours over points of any type, filled from slices, iterators and a resource.
+pub fn gathered_contours<P: ShapePoint + Drop>(
     alloc: Global,
     points: &[P],
     ranges: &[Range<usize>],
     paths: &[Vec<P>],
-) -> Result<(FloatFlatContoursBuffer<P>, FloatFlatShapesBuffer<P>), ShapeError> {
+) -> Result<FloatFlatContoursBuffer<P>, ShapeError> {
     let mut contours = FloatFlatContoursBuffer::with_capacity(alloc, points.len(), ranges.len())?;
     contours.set_flat(points, ranges)?;
     contours.set_with_iter(points.iter().copied(), ranges)?;
@@ -369,6 +379,16 @@ pub fn gathered<P: ShapePoint + Drop>(
     contours.clear_and_reserve(points.len(), 2)?;
     contours.add_contour(points)?;
     contours.add_contour_iter(points.iter().copied())?;
+    contours.clone()
+}
+
+/// Returns a buffer of shapes, filled in the same way.
+pub fn gathered_shapes<P: ShapePoint + Drop>(
+    alloc: Global,
+    points: &[P],
+    ranges: &[Range<usize>],
+    paths: &[Vec<P>],
+) -> Result<FloatFlatShapesBuffer<P>, ShapeError> {
     let mut shapes = FloatFlatShapesBuffer::with_capacity(alloc, points.len(), 1, 1)?;
     shapes.set_flat(points, ranges, ranges)?;
     shapes.set_with_iter(points.iter().copied(), ranges, ranges)?;
@@ -376,7 +396,7 @@ pub fn gathered<P: ShapePoint + Drop>(
     shapes.clear_and_reserve(points.len(), 2, 2)?;
     shapes.add_contour(points)?;
     shapes.add_contour_iter(points.iter().copied())?;
-    Ok((contours.clone()?, shapes.clone()?))
+    shapes.clone()
 }
 
 /// Returns what is read back of two buffers over points of any type, or `None` if one can't be read.
