@@ -26,6 +26,7 @@ import shutil
 import subprocess
 import sys
 import tempfile
+import threading
 from concurrent.futures import ThreadPoolExecutor
 
 sys.dont_write_bytecode = True
@@ -95,9 +96,10 @@ class Edit:
         self.open, self.clause = goals, self.clause or (at_return.rpartition("-clause-")[2] if at_return else goals[0])
         before, bare = self.text, re.sub(r"^(clause|goals):.*\n", "", self.text, flags=re.M)
         self.text = re.sub(r"^(refused:.*\n)", rf"\1clause: {self.clause}\ngoals: {' '.join(goals)}\n", bare, count=1, flags=re.M)
-        whole = read(self.file).replace(before, self.text)
-        with open(self.file, "w", encoding="utf-8") as out:
-            out.write(whole)
+        with WRITING:
+            whole = read(self.file).replace(before, self.text)
+            with open(self.file, "w", encoding="utf-8") as out:
+                out.write(whole)
 
     def answer(self, room):
         """Answers the goals that it lists and that have no answer in this copy of its crate."""
@@ -239,8 +241,21 @@ class Notes:
                         note.write("\n".join(edit.goals))
 
 
+# two parts of a crate may write into one file of mutants
+WRITING = threading.Lock()
+# the most mutants of a crate that are tried on one copy of it where another lane is free
+MOST = 40
+
+
+def parts_of(edits, lanes):
+    """Divides a crate's edits by lanes. Those of one function come into different parts, since no two are tried together."""
+    number = min(lanes, -(-len(edits) // MOST))
+    in_order = sorted(edits, key=lambda it: it.function)
+    return [in_order[at::number] for at in range(number)]
+
+
 class Trial:
-    """The mutants of one crate, tried in rounds on one copy of it."""
+    """Mutants of one crate, tried in rounds on one copy of it."""
 
     def __init__(self, crate, edits, writes, is_quick):
         self.crate, self.left, self.notes, self.writes, self.is_quick, self.passed = crate, edits, Notes(crate), writes, is_quick, []
@@ -272,9 +287,9 @@ class Trial:
                     self.look_at(edit, found, len(taken) == 1)
                 self.notes.add([] if self.is_quick else self.passed[known:])
 
-    def has_judged_all(self, edits):
-        """Whether all these, the crate's edits, passed in full, and the crate is as it was before the first round."""
-        return not self.is_quick and len(self.passed) == len(edits) and self.stamp == self.crate.stamp()
+    def is_as_it_was(self):
+        """Whether its edits were judged in full, and the crate is as it was before the first round."""
+        return not self.is_quick and self.stamp == self.crate.stamp()
 
     def judge(self, edit, why_not):
         self.left.remove(edit)
@@ -377,16 +392,16 @@ def main():
     libraries = dict.fromkeys(below for crate, its in edits.items() if its for below in crate.below())
     if all(it.build_rlib(["--jobs", str(processors)], anew=False) == 0 for it in libraries):
         quick = {crate for crate in edits if asked.quick and judged.has(crate, of_crate[crate])}
-        trials = [Trial(crate, its, asked.write, crate in quick).sort_out(asked.anew) for crate, its in edits.items() if its]
-        for trial in trials:
-            if asked.quick and not trial.is_quick:
-                print(f"{trial.crate.name}: {judged.FILE} doesn't list it as it is, so its mutants are judged in full", flush=True)
+        for crate in (it for it, its in edits.items() if its and asked.quick and it not in quick):
+            print(f"{crate.name}: {judged.FILE} doesn't list it as it is, so its mutants are judged in full", flush=True)
+        trials = [Trial(crate, part, asked.write, crate in quick).sort_out(asked.anew) for crate, its in edits.items() for part in parts_of(its, asked.lanes)]
         open_ones = sorted((it for it in trials if it.left), key=lambda it: -len(it.left))
         with ThreadPoolExecutor(asked.lanes) as pool:
             list(pool.map(Trial.run, open_ones))
-    for trial in trials:
-        if asked.write and trial.has_judged_all(of_crate[trial.crate]):
-            judged.add(trial.crate, of_crate[trial.crate])
+    for crate, own in of_crate.items() if asked.write else ():
+        its = [it for it in trials if it.crate is crate]
+        if its and sum(len(it.passed) for it in its) == len(own) and all(it.is_as_it_was() for it in its):
+            judged.add(crate, own)
     passed = sum(len(it.passed) for it in trials)
     failed = len(chosen) - passed  # with those that were not judged
     # notes that no run has used for sixty days go
