@@ -32,13 +32,14 @@ LEFT_OUT = shutil.ignore_patterns(".git", "out", "target", "dist", "environment"
 # The parts of the tests, in the order in which they start, two at a time: the longest first, and the pages, which show what others build, last.
 TESTS = (".ci/javascript.sh --quick", ".ci/cargo.sh --quick", ".ci/c_library.sh --quick", ".ci/python_package.sh --quick", ".ci/postgres.sh --quick",
          ".ci/sqlite.sh --quick", ".ci/scaling.sh", ".ci/pictures.sh", "python3 .ci/pages.py --quick")
-# The parts of the gate that rest on no proof, and those after the proofs. The tests of the C library move what is built, so others run after them, in two lanes.
+# The parts of the gate that rest on no proof, and those after the proofs. The tests of the C library move what is built, so others run after them, in three
+# lanes, each in about the time of the first.
 WITHOUT_PROOFS = ("python3 .ci/test_ci.py", "scripts/widths.sh --check")
 C_LIBRARY = ".ci/c_library.sh"
-LANES = ((".ci/cargo.sh --rest", ".ci/elsewhere.sh", ".ci/sqlite.sh", ".ci/qgis.sh", ".ci/long_tests.sh"),
-         (".ci/python_package.sh", ".ci/postgres.sh", ".ci/javascript.sh", ".ci/dist.sh", "python3 .ci/refusals.py", ".ci/scaling.sh", ".ci/pictures.sh",
-          "python3 .ci/pages.py"))
-AFTER_PROOFS = (C_LIBRARY, *LANES[0], *LANES[1])
+LANES = ((".ci/elsewhere.sh",),
+         (".ci/cargo.sh --rest", ".ci/sqlite.sh", ".ci/qgis.sh", ".ci/long_tests.sh", "python3 .ci/refusals.py", ".ci/scaling.sh", ".ci/pictures.sh"),
+         (".ci/python_package.sh", ".ci/postgres.sh", ".ci/javascript.sh", ".ci/dist.sh", "python3 .ci/pages.py"))
+AFTER_PROOFS = (C_LIBRARY, *itertools.chain(*LANES))
 # The mutants of the core, below which there is no library, are tried beside rt ci. Those of the other crates are tried over the libraries that rt ci has
 # built, and so is the C library built, since theirs are tried over what it keeps.
 MUTANTS_OF_CORE = "nice -n 10 python3 .ci/wrong.py --quick --lanes 1 --only i_shape_core"
