@@ -11,6 +11,7 @@ all processes that it has started end with it, and its folder goes. Before the l
 """
 import contextlib
 import ctypes
+import glob
 import itertools
 import os
 import re
@@ -40,8 +41,9 @@ LANES = ((".ci/elsewhere.sh",),
          (".ci/cargo.sh --rest", ".ci/sqlite.sh", ".ci/qgis.sh", ".ci/long_tests.sh", "python3 .ci/refusals.py", ".ci/scaling.sh", ".ci/pictures.sh"),
          (".ci/python_package.sh", ".ci/postgres.sh", ".ci/javascript.sh", ".ci/dist.sh", "python3 .ci/pages.py"))
 AFTER_PROOFS = (C_LIBRARY, *itertools.chain(*LANES))
-# The mutants of the core, below which there is no library, are tried beside rt ci. Those of the other crates are tried over the libraries that rt ci has
-# built, and so is the C library built, since theirs are tried over what it keeps.
+# The mutants of the core, below which there is no library, are tried beside rt ci, over what it has proved as it begins to try those in must-fail/. Those of
+# the other crates are tried over the libraries that rt ci has built, and so is the C library built, since theirs are tried over what it keeps.
+TRIES_CORE = "rt: i_shape_core: trying its must-fail edits"
 MUTANTS_OF_CORE = "nice -n 10 python3 .ci/wrong.py --quick --lanes 1 --only i_shape_core"
 OTHER_MUTANTS = "sh -c 'python3 .ci/mark_proved.py; bash bindings/c/build.sh && exec python3 .ci/wrong.py --quick --except i_shape_core'"
 
@@ -89,6 +91,8 @@ class Parts:
 
     def __init__(self):
         self.counts, self.failures, self.is_over, self.lock = [], [], False, threading.RLock()
+        # set when rt ci begins to try the edits of the core, or ends
+        self.tries_core = threading.Event()
         # PR_SET_CHILD_SUBREAPER: what a part leaves behind stays below this process.
         ctypes.CDLL(None).prctl(36, 1)
         self.take_signals(lambda *_: sys.exit(130))
@@ -110,6 +114,8 @@ class Parts:
                 for line in said:
                     lines.append(line)
                     print(line, end="", flush=True)
+                    if line.startswith(TRIES_CORE):
+                        self.tries_core.set()
             except OSError:
                 # the reader of the output has gone
                 os.kill(os.getpid(), signal.SIGTERM)
@@ -179,7 +185,13 @@ def run_tests(parts):
 def run_beside_proofs(parts, copy):
     """In a copy of the crates, since rt ci moves what other commands keep in its checkout out of the way."""
     shutil.copytree(TOP, copy, symlinks=True, ignore=LEFT_OUT)
-    parts.run_all((*WITHOUT_PROOFS, MUTANTS_OF_CORE), copy)
+    parts.run_all(WITHOUT_PROOFS, copy)
+    parts.tries_core.wait()
+    # Without that folder, as where rt ci has tried the edits before, the mutants prove the core themselves.
+    for seed in glob.glob(f"{parts.work}/rt-edits-*/seed"):
+        with contextlib.suppress(OSError, shutil.Error):
+            shutil.copytree(seed, f"{copy}/crates/i_shape_core/out/incremental", symlinks=True, copy_function=os.link)
+    parts.run(MUTANTS_OF_CORE, copy)
 
 
 def run_gate(parts):
@@ -188,6 +200,7 @@ def run_gate(parts):
     shutil.copytree(TOP, checkout, symlinks=True, ignore=LEFT_OUT)
     beside = parts.beside(run_beside_proofs, f"{parts.work}/copy")
     parts.run("rt ci", checkout)
+    parts.tries_core.set()
     parts.run(OTHER_MUTANTS, checkout)
     beside.join()
     parts.run(C_LIBRARY, checkout)

@@ -193,20 +193,21 @@ run.end()
         return [int(pid) for pid, state in map(str.split, listed.splitlines()) if state[0] != "Z"]
 
     def test_stops(self):
-        """Ctrl-C ends the gate while rt ci and the mutants run, and nothing is left of it."""
+        """Ctrl-C ends the gate while rt ci and the mutants, over what rt ci has proved, run, and nothing is left of it."""
         checkout = f"{self.room}/checkout"
         write(f"{checkout}/.ci/parts.py", pages.read(f"{TOP}/.ci/parts.py"))
         for name in (".ci/test_ci.py", "scripts/widths.sh"):
             write(f"{checkout}/{name}", "")
-        write(f"{checkout}/.ci/wrong.py", "import time\ntime.sleep(300)\n")
-        write(f"{self.room}/bin/rt", '#!/bin/sh\necho started >> "$STAND_IN/started"\nwhile :; do sleep 300; done\n')
+        write(f"{checkout}/.ci/wrong.py", "import os, time\nos.system('ls crates/i_shape_core/out/incremental >> $STAND_IN/started')\ntime.sleep(300)\n")
+        proves = 'echo started >> "$STAND_IN/started"\nmkdir -p "$TMPDIR/rt-edits-1/seed"\necho > "$TMPDIR/rt-edits-1/seed/kept"\n'
+        write(f"{self.room}/bin/rt", f"#!/bin/sh\n{proves}echo '{parts.TRIES_CORE} (2)'\nwhile :; do sleep 300; done\n")
         how = {"env": self.environment, "start_new_session": True, "stdout": subprocess.DEVNULL, "stderr": subprocess.DEVNULL}
         gate = subprocess.Popen([sys.executable, f"{checkout}/.ci/parts.py", "gate"], **how)
         self.addCleanup(lambda: [os.kill(pid, signal.SIGKILL) for pid in self.in_session(gate.pid)])
         deadline = time.time() + 30
-        while not self.started() and time.time() < deadline:
+        while len(self.started()) < 2 and time.time() < deadline:
             time.sleep(0.1)
-        self.assertEqual(self.started(), ["started"])
+        self.assertEqual(self.started(), ["started", "kept"])
         os.killpg(gate.pid, signal.SIGINT)
         self.assertEqual(gate.wait(60), 130)
         self.assertEqual(self.in_session(gate.pid), [])
@@ -422,7 +423,8 @@ class WrongTest(Case):
         write(f"{self.room}/crates.txt", "doubles:\n")
         write(f"{self.room}/crates/doubles/src/lib.rt", DOUBLES)
         write(f"{self.room}/crates/doubles/proofs/{LONG}/Answers.antt", ANSWERS)
-        write(f"{self.room}/.ci/wrong.py", pages.read(f"{TOP}/.ci/wrong.py"))
+        # in three copies of the crate, where there are as many processors
+        write(f"{self.room}/.ci/wrong.py", changed(pages.read(f"{TOP}/.ci/wrong.py"), "MOST = 40", "MOST = 4"))
         mutants = [f"mutant: {name}\nrefused: {function}\nold: {old}\nnew: {new}\n" for name, function, old, new, _ in EDITS]
         write(f"{self.room}/crates/doubles/wrong/lib.edit", "\n".join(mutants))
         status, said = self.run_wrong()

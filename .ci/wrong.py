@@ -1,7 +1,7 @@
 #!/usr/bin/env python3
 """Tries the mutants in crates/NAME/wrong/: the prover must refuse each at the function that it changes.
 
-docs/develop/README.md says what a mutant is. Edits are put into a copy of their crate, at most one for each function, and checked together, over what earlier
+docs/develop/README.md says what a mutant is. Edits are put into copies of their crate, at most one for each function, and checked together, over what earlier
 checks kept. An edit passes where the prover leaves a goal of its own function open, and one of these is of the clause that the edit names: the goal
 'returns-clause-NAME', say, or the goal NAME itself, which may be one of a loop or of a call. A fault of a function that it calls, or a text that cannot be read,
 is not enough. Rounds go on until each edit is judged. The libraries below a crate whose edits are tried are proved first, where they aren't.
@@ -35,6 +35,10 @@ sys.path.insert(0, os.path.dirname(os.path.realpath(shutil.which("rt") or sys.ex
 import rtlib as KIT  # noqa: E402
 
 NOTES = f"{os.environ.get('XDG_CACHE_HOME') or os.path.expanduser('~/.cache')}/raspochre/mutants"
+# for each so many mutants a crate gets one more copy, up to the number of lanes
+MOST = 40
+# two copies of a crate may write into one file of mutants
+WRITING = threading.Lock()
 # a mutant in the file of its source's mutants
 FORM = re.compile(r"mutant: (.+)\nrefused: (.+)\n(?:clause: (.+)\n)?(?:goals: (.+)\n)?((?:old: .+\nnew:.*\n)+)")
 # what an error says of a name that is no longer there, or of a proof that rests on one that was refused
@@ -241,12 +245,6 @@ class Notes:
                         note.write("\n".join(edit.goals))
 
 
-# two parts of a crate may write into one file of mutants
-WRITING = threading.Lock()
-# the most mutants of a crate that are tried on one copy of it where another lane is free
-MOST = 40
-
-
 def parts_of(edits, lanes):
     """Divides a crate's edits by lanes. Those of one function come into different parts, since no two are tried together."""
     number = min(lanes, -(-len(edits) // MOST))
@@ -361,7 +359,7 @@ class Trial:
 def main():
     processors = len(os.sched_getaffinity(0))
     parser = argparse.ArgumentParser(description=__doc__, formatter_class=argparse.RawDescriptionHelpFormatter)
-    parser.add_argument("--lanes", type=int, default=processors, metavar="N", help="try the edits of as many crates at once")
+    parser.add_argument("--lanes", type=int, default=processors, metavar="N", help="try edits on so many copies of crates at once")
     parser.add_argument("--anew", action="store_true", help="try the edits that are noted too")
     parser.add_argument("--write", action="store_true", help="write .ci/judged.txt, and into edits that pass the lines 'clause' and 'goals' that they lack: read them")
     parser.add_argument("--quick", action="store_true", help="try the edits of crates that .ci/judged.txt lists by a weaker search")
@@ -398,10 +396,11 @@ def main():
         open_ones = sorted((it for it in trials if it.left), key=lambda it: -len(it.left))
         with ThreadPoolExecutor(asked.lanes) as pool:
             list(pool.map(Trial.run, open_ones))
-    for crate, own in of_crate.items() if asked.write else ():
-        its = [it for it in trials if it.crate is crate]
-        if its and sum(len(it.passed) for it in its) == len(own) and all(it.is_as_it_was() for it in its):
-            judged.add(crate, own)
+    if asked.write:
+        for crate, own in of_crate.items():
+            its = [it for it in trials if it.crate is crate]
+            if its and sum(len(it.passed) for it in its) == len(own) and all(it.is_as_it_was() for it in its):
+                judged.add(crate, own)
     passed = sum(len(it.passed) for it in trials)
     failed = len(chosen) - passed  # with those that were not judged
     # notes that no run has used for sixty days go
