@@ -144,10 +144,10 @@ fn a_shape_of_one_contour_is_set(rt: HostRuntime) -> Result<(), Fail> {
 fn one_shape_is_set(rt: HostRuntime) -> Result<(), Fail> {
     let row = Row::new(rt.alloc(), "one shape");
     let given = texts::shape(row.alloc, HOLED)?;
-    let mut contours = FlatContoursBuffer::new(row.alloc);
+    let mut contours = flat(&row, "1 2 3 4 5 6", "0..3")?;
     contours.set_with_shape(given.as_slice())?;
     has_contours(&row, &contours, [POINTS_OF_HOLED, "0..4 4..8", HOLED])?;
-    let mut shapes = FlatShapesBuffer::new(row.alloc);
+    let mut shapes = flat_shapes(&row, "1 2 3 4 5 6", ["0..3", "0..1"])?;
     shapes.set_with_shape(given.as_slice())?;
     let wanted = flat_shapes(&row, POINTS_OF_HOLED, ["0..4 4..8", "0..2"])?;
     row.holds(shapes == wanted, "a shape")?;

@@ -168,7 +168,7 @@ fn a_shape_is_set_with_a_resource(rt: HostRuntime) -> Result<(), Fail> {
 fn a_resource_takes_the_place_of_what_was_held(rt: HostRuntime) -> Result<(), Fail> {
     let row = Row::new(rt.alloc(), "resources");
     let mut shapes = FloatFlatShapesBuffer::new(row.alloc);
-    shapes.add_contour(&[WholePoint { x: 1, y: 1 }])?;
+    shapes.add_contour(whole(row.alloc, SIX)?.as_slice())?;
     shapes.set_with_resource(&paths(row.alloc, LISTED)?)?;
     has_shapes(&row, &shapes, [JOINED, "0..3 3..5", "0..2", LISTED])?;
     let no_paths: [Vec<WholePoint>; 0] = [];

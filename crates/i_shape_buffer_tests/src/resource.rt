@@ -135,7 +135,7 @@ macro_rules! lend_shapes {
     }};
 }
 
-/// Lists of paths lend them, and no path.
+/// Lists of paths lend them. A list without paths lends none.
 macro_rules! lend_paths {
     ($lends:ident, $row:ident, $points:ident) => {{
         let wanted = some_paths($row.alloc, $points)?;
@@ -146,7 +146,7 @@ macro_rules! lend_paths {
     }};
 }
 
-/// The points lend themselves as one path, and no point.
+/// The points lend themselves as one path. No points lend an empty one.
 macro_rules! lend_points {
     ($lends:ident, $row:ident, $points:ident) => {{
         let wanted = vec![in $row.alloc; Vec::new($row.alloc)]?;

@@ -51,16 +51,17 @@ placed_touching contour point (HoleOutside k) = fault 3 (contour + k) 0
 placed_touching contour point (HoleWithin k j) = fault 4 (contour + k) (contour + j)
 placed_touching contour point (Disconnected it) = fault 5 (point + it.first) (point + it.second)
 
+-- a notion of a polygon's fault, of all points, the offsets of its contours, the index of its first contour, and the
+-- fault
+abbrev pub FaultNotion : Type 1
+FaultNotion = List Point → List ℕ → ℕ → Fault → Type 0
+
 -- `written` is the first fault, by IsFirst, of the polygon whose contours have these offsets and begin at index
 -- `contour`
 pub record IsPlacedFault {V : Type 0} (IsFirst : List ℕ → List Point → V → Type 0) (place : ℕ → ℕ → V → Fault) (points : List Point) (offsets : List ℕ) (contour : ℕ) (written : Fault) : Type 0 where
   pub validity : V
   pub first : IsFirst (rebased offsets) (points_between points offsets) validity
   pub is : written ≡ place contour (offset offsets 0) validity
-
--- a notion of a polygon's fault: of its points, the offsets of its contours, the index of the first, and the fault
-abbrev pub FaultNotion : Type 1
-FaultNotion = List Point → List ℕ → ℕ → Fault → Type 0
 
 -- `written` is the first fault of that polygon
 abbrev pub IsFaultOf : FaultNotion

@@ -48,7 +48,11 @@ fn a_hole_is_subtracted(rt: HostRuntime) -> Result<(), Fail> {
     ]?;
     let holed = holed.as_slice();
     let areas = [holed.area_two(), holed.area()];
-    row.equal((areas, holed.points_count()), ([192_i64, 96], 8), "areas")
+    row.equal(
+        (areas, holed.points_count()),
+        ([192_i64, 96], 8),
+        "areas, points",
+    )
 }
 
 #[test]
@@ -57,7 +61,11 @@ fn contours_are_added_up_before_they_are_halved(rt: HostRuntime) -> Result<(), F
     let shape = int_shape![row.alloc; [[0, 0], [1, 0], [0, 1]], [[0, 0], [1, 0], [0, 1]]]?;
     let shape = shape.as_slice();
     let areas = [shape.area_two(), shape.area()];
-    row.equal((areas, shape.points_count()), ([2_i64, 1], 6), "areas")
+    row.equal(
+        (areas, shape.points_count()),
+        ([2_i64, 1], 6),
+        "areas, points",
+    )
 }
 
 #[test]
@@ -67,7 +75,11 @@ fn shapes_are_added_up_before_they_are_halved(rt: HostRuntime) -> Result<(), Fai
         int_shapes![row.alloc; [[[0, 0], [1, 0], [0, 1]]], [[[0, 0], [1, 0], [0, 1]]]]?;
     let list = list.as_slice();
     let areas = [list.area_two(), list.area()];
-    row.equal((areas, list.points_count()), ([2_i64, 1], 6), "areas")
+    row.equal(
+        (areas, list.points_count()),
+        ([2_i64, 1], 6),
+        "areas, points",
+    )
 }
 
 /// The contour, a square about zero that is wound so often, has these areas, and is its own end and form. Wound twice,
@@ -79,18 +91,18 @@ fn winds<I: IntNumber>(
 ) -> Result<(), Fail> {
     let given = contour(row.alloc, points)?;
     let points = given.as_slice();
-    row.holds(!points.is_empty(), "a point")?;
+    row.holds(!points.is_empty(), "no point")?;
     row.holds([points.area_two(), points.area()] == areas, "areas")?;
     winds_about_zero(row, points, times)?;
     row.holds(points.is_simple(), "simple")?;
     row.equal(
-        is_left(row.alloc, points)?,
+        are_left(row.alloc, points)?,
         [true; 3],
         "its own end, its own form, no spike",
     )
 }
 
-/// The contour winds so often about zero, and contains it if it winds once.
+/// The contour winds so often about zero, contains it if it winds once, and is clockwise if it winds twice.
 fn winds_about_zero<I: IntNumber>(
     row: &Row<'_>,
     points: &[IntPoint<I>],
@@ -100,21 +112,21 @@ fn winds_about_zero<I: IntNumber>(
     requires some { 0 < length points.now }
 {
     let zero = IntPoint::new(I::ZERO, I::ZERO);
-    row.holds(zero.is_in_safe_range(), "a point")?;
-    let told = (
+    row.holds(zero.is_in_safe_range(), "zero is safe")?;
+    let found = (
         points.is_clockwise_ordered(),
         points.contains_point(zero),
         points.winding_number(zero),
     );
     row.equal(
-        told,
+        found,
         (times == 2, times == 1, times),
         "clockwise, contains, winds",
     )
 }
 
 /// Whether the simplified contour, the canonical one and the despiked one are the contour itself.
-fn is_left<I: IntNumber>(alloc: Global, points: &[IntPoint<I>]) -> Result<[bool; 3], Fail>
+fn are_left<I: IntNumber>(alloc: Global, points: &[IntPoint<I>]) -> Result<[bool; 3], Fail>
     requires { IsSafeContour I.width (contour_of I.value points.now) }
 {
     Ok([

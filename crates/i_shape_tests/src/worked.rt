@@ -231,11 +231,16 @@ fn is_turned(alloc: Global, points: &[IntPoint<i32>], ring: &[Pair]) -> Result<b
 }
 
 /// What is left of the contour without zero turns is the ring.
-fn simplifies_to(row: &Row<'_>, points: &[IntPoint<i32>], ring: &[Pair]) -> Result<(), Fail>
+fn simplifies_to(
+    row: &Row<'_>,
+    points: &[IntPoint<i32>],
+    ring: &[Pair],
+    what: &str,
+) -> Result<(), Fail>
     requires { IsSafeContour w32 (contour_of (λ z. z) points.now) }
 {
     let kept = points.simplified(row.alloc)?.ok_or("it collapsed")?;
-    row.holds(is_turned(row.alloc, kept.as_slice(), ring)?, "the ring")
+    row.holds(is_turned(row.alloc, kept.as_slice(), ring)?, what)
 }
 
 /// The canonical form of the contour is the ring.
@@ -250,10 +255,10 @@ fn has_ring_as_form(row: &Row<'_>, points: &[IntPoint<i32>], ring: &[Pair]) -> R
 /// The contour leaves the ring by both cleaners, and has it as its form.
 fn leaves_ring(row: &Row<'_>, list: &[Pair], ring: &[Pair]) -> Result<Vec<Pair>, Fail> {
     let given = contour::<i32>(row.alloc, list)?;
-    simplifies_to(row, given.as_slice(), ring)?;
+    simplifies_to(row, given.as_slice(), ring, "the ring")?;
     has_ring_as_form(row, given.as_slice(), ring)?;
     let despiked = given.despiked_contour(row.alloc)?.ok_or("it collapsed")?;
-    simplifies_to(row, despiked.as_slice(), ring)?;
+    simplifies_to(row, despiked.as_slice(), ring, "the despiker's ring")?;
     let survivors = pairs(row.alloc, despiked.as_slice())?;
     row.holds(!has_back_vertex(survivors.as_slice()), "a spike is left")?;
     Ok(survivors)
