@@ -423,7 +423,8 @@ class WrongTest(Case):
         write(f"{self.room}/crates.txt", "doubles:\n")
         write(f"{self.room}/crates/doubles/src/lib.rt", DOUBLES)
         write(f"{self.room}/crates/doubles/proofs/{LONG}/Answers.antt", ANSWERS)
-        # in three copies of the crate, where there are as many processors
+        # in three copies of the crate, where there are as many processors, over what is proved here
+        self.run_in(f"{self.room}/crates/doubles", "rt", "check")
         write(f"{self.room}/.ci/wrong.py", changed(pages.read(f"{TOP}/.ci/wrong.py"), "MOST = 40", "MOST = 4"))
         mutants = [f"mutant: {name}\nrefused: {function}\nold: {old}\nnew: {new}\n" for name, function, old, new, _ in EDITS]
         write(f"{self.room}/crates/doubles/wrong/lib.edit", "\n".join(mutants))

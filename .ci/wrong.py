@@ -35,7 +35,7 @@ sys.path.insert(0, os.path.dirname(os.path.realpath(shutil.which("rt") or sys.ex
 import rtlib as KIT  # noqa: E402
 
 NOTES = f"{os.environ.get('XDG_CACHE_HOME') or os.path.expanduser('~/.cache')}/raspochre/mutants"
-# for each so many mutants a crate gets one more copy, up to the number of lanes
+# for each so many mutants a crate that is proved gets one more copy, up to the number of lanes
 MOST = 40
 # two copies of a crate may write into one file of mutants
 WRITING = threading.Lock()
@@ -245,9 +245,10 @@ class Notes:
                         note.write("\n".join(edit.goals))
 
 
-def parts_of(edits, lanes):
-    """Divides a crate's edits by lanes. Those of one function come into different parts, since no two are tried together."""
-    number = min(lanes, -(-len(edits) // MOST))
+def parts_of(crate, edits, lanes):
+    """Divides a crate's edits by lanes, unless each lane would have to prove the crate by itself. Those of one function come into different parts, since no two
+    are tried together."""
+    number = min(lanes if os.path.isdir(f"{crate.folder}/out/incremental") else 1, -(-len(edits) // MOST))
     in_order = sorted(edits, key=lambda it: it.function)
     return [in_order[at::number] for at in range(number)]
 
@@ -392,7 +393,7 @@ def main():
         quick = {crate for crate in edits if asked.quick and judged.has(crate, of_crate[crate])}
         for crate in (it for it, its in edits.items() if its and asked.quick and it not in quick):
             print(f"{crate.name}: {judged.FILE} doesn't list it as it is, so its mutants are judged in full", flush=True)
-        trials = [Trial(crate, part, asked.write, crate in quick).sort_out(asked.anew) for crate, its in edits.items() for part in parts_of(its, asked.lanes)]
+        trials = [Trial(crate, part, asked.write, crate in quick).sort_out(asked.anew) for crate, its in edits.items() for part in parts_of(crate, its, asked.lanes)]
         open_ones = sorted((it for it in trials if it.left), key=lambda it: -len(it.left))
         with ThreadPoolExecutor(asked.lanes) as pool:
             list(pool.map(Trial.run, open_ones))
