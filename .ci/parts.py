@@ -42,10 +42,12 @@ LANES = ((".ci/elsewhere.sh",),
          (".ci/python_package.sh", ".ci/postgres.sh", ".ci/javascript.sh", ".ci/dist.sh", "python3 .ci/pages.py"))
 AFTER_PROOFS = (C_LIBRARY, *itertools.chain(*LANES))
 # The mutants of the core, below which there is no library, are tried beside rt ci, over what it has proved as it begins to try those in must-fail/. Those of
-# the other crates are tried over the libraries that rt ci has built, and so is the C library built, since theirs are tried over what it keeps.
+# the other crates are tried over the libraries that rt ci has built, beside the parts after the proofs, once the C library is built over them too, since its
+# mutants are tried over what its build keeps.
 TRIES_CORE = "rt: i_shape_core: trying its must-fail edits"
 MUTANTS_OF_CORE = "nice -n 10 python3 .ci/wrong.py --quick --lanes 1 --only i_shape_core"
-OTHER_MUTANTS = "sh -c 'python3 .ci/mark_proved.py; bash bindings/c/build.sh && exec python3 .ci/wrong.py --quick --except i_shape_core'"
+BUILDS_C = "sh -c 'python3 .ci/mark_proved.py; bash bindings/c/build.sh && echo make c: 1 passed, 0 failed'"
+OTHER_MUTANTS = "nice -n 5 python3 .ci/wrong.py --quick --except i_shape_core"
 
 
 def counts_of(said, status):
@@ -190,22 +192,28 @@ def run_beside_proofs(parts, copy):
     # Without that folder, as where rt ci has tried the edits before, the mutants prove the core themselves.
     for seed in glob.glob(f"{parts.work}/rt-edits-*/seed"):
         with contextlib.suppress(OSError, shutil.Error):
-            shutil.copytree(seed, f"{copy}/crates/i_shape_core/out/incremental", symlinks=True, copy_function=os.link)
+            shutil.copytree(seed, f"{copy}/crates/i_shape_core/out/incremental", symlinks=True, copy_function=link_or_copy)
     parts.run(MUTANTS_OF_CORE, copy)
 
 
+def link_or_copy(one, other):
+    """Gives a file of proved work, which is replaced but never changed, a second name, and copies any other file."""
+    return os.link(one, other) if one.endswith(".oantt") else shutil.copy2(one, other)
+
+
 def run_gate(parts):
-    """All in a copy of the checkout, so that what is built in the checkout stays as it is."""
-    checkout = f"{parts.work}/checkout"
+    """All in copies of the checkout, so that what is built in the checkout stays as it is."""
+    checkout, mutants = f"{parts.work}/checkout", f"{parts.work}/mutants"
     shutil.copytree(TOP, checkout, symlinks=True, ignore=LEFT_OUT)
     beside = parts.beside(run_beside_proofs, f"{parts.work}/copy")
     parts.run("rt ci", checkout)
     parts.tries_core.set()
-    parts.run(OTHER_MUTANTS, checkout)
-    beside.join()
+    parts.run(BUILDS_C, checkout)
+    shutil.copytree(checkout, mutants, symlinks=True, copy_function=link_or_copy)
+    beside_others = parts.beside(Parts.run, OTHER_MUTANTS, mutants)
     parts.run(C_LIBRARY, checkout)
-    for lane in [parts.beside(Parts.run_all, commands, checkout) for commands in LANES]:
-        lane.join()
+    for thread in [*(parts.beside(Parts.run_all, commands, checkout) for commands in LANES), beside_others, beside]:
+        thread.join()
 
 
 def run_both(parts):
