@@ -1,7 +1,7 @@
 //! Straight-line programs. Each tests the points, cleans, and continues with the result. The double area stays the
 //! same.
 
-ghost use Rattle.std.specs.Prelude.{◌≡◌, ◌<◌, ◌↔◌, length, IfOk, OnOk, OnErr, IsErrOf, Ok, false};
+ghost use Rattle.std.specs.Prelude.{◌≡◌, ◌<◌, ◌↔◌, ◌⊎◌, length, IfOk, IfErr, OnOk, OnErr, IsErrOf, Ok, false};
 ghost use Rattle.std.specs.List.{All};
 ghost use Rattle.std.specs.Int.{int_wrap};
 ghost use Rattle.i_shape.specs.Point.{Point};
@@ -12,6 +12,7 @@ ghost use Rattle.i_shape.specs.Cleaners.{SimpleAnswer};
 ghost use Rattle.i_shape.specs.ShapeLists.{shape_of, shapes_of, IsSafeShape, IsSafeList};
 ghost use Rattle.i_shape.specs.ShapeAnswers.{ListKept, EachShape, shape_shoelace, shapes_shoelace};
 ghost use Rattle.i_shape.specs.InPlace.{Leaves};
+ghost use Rattle.callers.specs.Refusals.{no_memory};
 
 use crate::refusal::Refusal;
 use i_shape::IntNumber;
@@ -23,11 +24,12 @@ use i_shape::int::shape::{IntContour, IntShapes};
 use i_shape::int::simple::Simplify;
 
 /// Removes zero turns from a contour in place, and then spikes, of which none remains by then. Returns the result of
-/// the first call.
+/// the first call. `OutOfRange` exactly if a point isn't safe; otherwise the only error is `OutOfMemory`.
 #[tactic(auto, using(i_shape::proofs::CallerLemmas::contour_cleaned, i_shape::proofs::CallerLemmas::contour_never_refused))]
 pub fn clean_contour<I: IntNumber>(contour: &mut IntContour<I>) -> Result<bool, Refusal>
     ensures range { IsErrOf result Refusal.OutOfRange
         ↔ (All (IsSafe I.width) (contour_of I.value contour.old.items) → ⊥) }
+    ensures errors { IfErr result (λ e. (e ≡ Refusal.OutOfRange) ⊎ (e ≡ no_memory)) }
     ensures cleaned { OnOk result
         (Leaves SimpleAnswer (contour_of I.value contour.old.items)
         (contour_of I.value contour.new.items)) }
@@ -50,10 +52,12 @@ pub fn clean_contour<I: IntNumber>(contour: &mut IntContour<I>) -> Result<bool, 
 }
 
 /// Removes zero turns from each shape in place, and then spikes. The double area stays the same if no shape is removed.
+/// The errors are those of `clean_contour`.
 #[tactic(auto, using(i_shape::proofs::CallerLemmas::list_cleaned, i_shape::proofs::CallerLemmas::list_never_refused, i_shape::proofs::CallerLemmas::list_cleaned_area))]
 pub fn clean_list<I: IntNumber>(shapes: &mut IntShapes<I>) -> Result<bool, Refusal>
     ensures range { IsErrOf result Refusal.OutOfRange
         ↔ (IsSafeList I.width (shapes_of I.value shapes.old.items) → ⊥) }
+    ensures errors { IfErr result (λ e. (e ≡ Refusal.OutOfRange) ⊎ (e ≡ no_memory)) }
     ensures kept { OnOk result
         (ListKept SimpleAnswer (shapes_of I.value shapes.old.items)
         (shapes_of I.value shapes.new.items)) }

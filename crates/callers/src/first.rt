@@ -1,10 +1,11 @@
 //! A first call, as a program of one's own would make it.
 
-ghost use Rattle.std.specs.Prelude.{◌≡◌, None, IfOk, IfSome};
+ghost use Rattle.std.specs.Prelude.{◌≡◌, Ok, None, IfOk, IfSome};
 ghost use Rattle.std.specs.List.{All};
 ghost use Rattle.i_shape.specs.IntPoint.{contour_of, answered, IsSafe};
 ghost use Rattle.i_shape.specs.Cleaners.{SimpleAnswer};
 ghost use Rattle.i_shape.specs.Edges.{shoelace};
+ghost use Rattle.i_shape.specs.Refusals.{OkUnlessMemory};
 
 use i_shape::int::IntPoint;
 use i_shape::int::safe_range::IntSafeRange;
@@ -13,16 +14,17 @@ use i_shape::int::simple::SimpleContour;
 use i_shape::{IntNumber, ShapeError};
 use std::alloc::Global;
 
-/// Returns a contour without zero turns, or `None` if it collapses or a point isn't safe.
+/// Returns a contour without zero turns, or `None` if it collapses or a point isn't safe. The only error is
+/// `OutOfMemory`, which can't occur if a point isn't safe.
 pub fn cleaned<I: IntNumber>(
     alloc: Global,
     contour: &[IntPoint<I>],
 ) -> Result<Option<IntContour<I>>, ShapeError>
     ensures answer { All (IsSafe I.width) (contour_of I.value contour.now)
-        → IfOk result (λ r. SimpleAnswer (contour_of I.value contour.now)
+        → OkUnlessMemory result (λ r. SimpleAnswer (contour_of I.value contour.now)
         (answered (contour_of I.value) r)) }
     ensures unsafe_points { (All (IsSafe I.width) (contour_of I.value contour.now) → ⊥)
-        → IfOk result (λ r. r ≡ None) }
+        → result ≡ Ok None }
     ensures area { IfOk result
         (λ r. IfSome r (λ kept. shoelace (contour_of I.value kept.items)
         ≡ shoelace (contour_of I.value contour.now))) }

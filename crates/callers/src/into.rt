@@ -1,12 +1,13 @@
 //! A contour that is cleaned from one slice into another, over points of any type. The double area stays the same.
 
-ghost use Rattle.std.specs.Prelude.{◌≡◌, ◌↔◌, ◌⊎◌, ◌<◌, length, take, IsTrue, IfOk, IsErrOf};
+ghost use Rattle.std.specs.Prelude.{◌≡◌, ◌↔◌, ◌⊎◌, ◌<◌, ◌≤◌, length, take, IsTrue, IfOk, IfErr, IsErrOf};
 ghost use Rattle.std.specs.List.{All};
 ghost use Rattle.i_shape.specs.IntPoint.{point_of, IsSafe};
 ghost use Rattle.i_shape.specs.Reading.{read};
 ghost use Rattle.i_shape.specs.Edges.{shoelace};
 ghost use Rattle.i_shape.specs.Cleaners.{SimpleAnswer};
 ghost use Rattle.i_shape.specs.Written.{slot};
+ghost use Rattle.callers.specs.Refusals.{no_memory};
 
 use crate::refusal::Refusal;
 use i_shape::int::ContourPoint;
@@ -39,7 +40,8 @@ pub fn are_safe<P: ContourPoint>(points: &[P]) -> bool
 }
 
 /// Removes zero turns from a contour into `between`, and then spikes into `out`, of which none remains by then. Returns
-/// how many points are left, 0 if the contour collapses.
+/// how many points are left, 0 if the contour collapses. `OutOfRange` exactly if a point isn't safe, or else `NoRoom`
+/// exactly if `between` or `out` is shorter than the contour; otherwise the only error is `OutOfMemory`.
 pub fn clean_into<P: ContourPoint>(
     simplifier: &mut ContourSimplifier,
     despiker: &mut ContourDeSpiker,
@@ -53,6 +55,9 @@ pub fn clean_into<P: ContourPoint>(
     ensures room { IsErrOf result Refusal.NoRoom
         ↔ (All (IsSafe P.Coordinate.width) (read P.Coordinate.value P.points contour.now)
         × ((length between.old < length contour.now) ⊎ (length out.old < length contour.now))) }
+    ensures errors { IfErr result
+        (λ e. (e ≡ Refusal.OutOfRange) ⊎ (e ≡ Refusal.NoRoom) ⊎ (e ≡ no_memory)) }
+    ensures count { IfOk result (λ n. n ≤ length contour.now) }
     ensures answer { IfOk result (λ n. SimpleAnswer (read P.Coordinate.value P.points contour.now)
         (slot (read P.Coordinate.value P.points (take n out.new)))) }
     ensures area { IfOk result (λ n. shoelace (read P.Coordinate.value P.points (take n out.new))
