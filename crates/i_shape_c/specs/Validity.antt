@@ -51,8 +51,8 @@ placed_touching contour point (HoleOutside k) = fault 3 (contour + k) 0
 placed_touching contour point (HoleWithin k j) = fault 4 (contour + k) (contour + j)
 placed_touching contour point (Disconnected it) = fault 5 (point + it.first) (point + it.second)
 
--- a notion of a polygon's fault, of all points, the offsets of its contours, the index of its first contour, and the
--- fault
+-- what it is to be a polygon's fault: a relation of all points, the offsets of the polygon's contours, the index of its
+-- first contour, and the fault
 abbrev pub FaultNotion : Type 1
 FaultNotion = List Point → List ℕ → ℕ → Fault → Type 0
 

@@ -25,23 +25,24 @@ pub enum TouchingValidity {
     TooFewPoints { contour: usize },
     /// These two edges are in contact, and are of one contour, cross or overlap.
     Contact(Contact),
-    /// The hole at this index has a point outside the outer contour.
+    /// Some point of the edges of the hole at this index lies outside the outer contour.
     HoleOutside { contour: usize },
-    /// The hole at `contour` has a point inside another hole, at `other`.
+    /// Some point of the edges of the hole at `contour` lies inside another hole, at `other`.
     HoleWithin { contour: usize, other: usize },
-    /// The contours of these two edges, which touch, touch a chain of contours at other points too: together they part
-    /// the inside.
+    /// These two edges touch, and touches at lesser points, by x and then by y, join their contours already, directly
+    /// or through other contours.
     Disconnected(Contact),
 }
 
 /// Returns the first fault of a polygon, or `Valid` if it has none. The offsets divide the points into its rings: the
 /// first is the outer contour, the others are its holes, of either direction. A polygon without rings is valid.
 ///
-/// Two rings may touch at single points, as OGC's rules allow, but no ring may touch itself. Faults come in this order:
-/// the first ring that has fewer than three points or whose points are all equal; the first contact of two edges of one
-/// ring, or that cross or overlap; the first hole with a point outside the outer contour; the first hole with a point
-/// inside another, with the first such other; the first touch that closes a circle of rings, by the points at which
-/// they touch, by x and then by y.
+/// Two rings may touch at one point, as OGC's rules allow, but no ring may touch itself. Faults come in this order: the
+/// first ring that has fewer than three points or whose points are all equal; the first contact of two edges of one
+/// ring, or that cross or overlap; the first hole with a point of its edges outside the outer contour; the first hole
+/// with a point of its edges inside another, with the first such other; the first touch of two rings that touches at
+/// lesser points, by x and then by y, join already, directly or through other rings: at the least point, and there the
+/// first contact.
 ///
 /// # Errors
 ///
