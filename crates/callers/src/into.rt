@@ -1,6 +1,6 @@
 //! A contour that is cleaned from one slice into another, over points of any type. The double area stays the same.
 
-ghost use Rattle.std.specs.Prelude.{◌≡◌, ◌↔◌, ◌⊎◌, ◌<◌, ◌≤◌, length, take, IsTrue, IfOk, IfErr, IsErrOf};
+ghost use Rattle.std.specs.Prelude.{◌≡◌, ◌↔◌, ◌⊎◌, ◌<◌, ◌≤◌, length, take, drop, IsTrue, IfOk, IfErr, OnErr, IsErrOf};
 ghost use Rattle.std.specs.List.{All};
 ghost use Rattle.i_shape.specs.IntPoint.{point_of, IsSafe};
 ghost use Rattle.i_shape.specs.Reading.{read};
@@ -39,9 +39,10 @@ pub fn are_safe<P: ContourPoint>(points: &[P]) -> bool
     each_is_safe(points)
 }
 
-/// Removes zero turns from a contour into `between`, and then spikes into `out`, of which none remains by then. Returns
-/// how many points are left, 0 if the contour collapses. `OutOfRange` exactly if a point isn't safe, or else `NoRoom`
-/// exactly if `between` or `out` is shorter than the contour; otherwise the only error is `OutOfMemory`.
+/// Writes the contour without zero turns to the front of `between`, and that without spikes, of which it has none by
+/// then, to the front of `out`. Returns how many points are left, 0 if the contour collapses. Beyond them, and after an
+/// error, `out` is as it was. `OutOfRange` exactly if a point isn't safe, or else `NoRoom` exactly if `between` or `out`
+/// is shorter than the contour; otherwise the only error is `OutOfMemory`.
 pub fn clean_into<P: ContourPoint>(
     simplifier: &mut ContourSimplifier,
     despiker: &mut ContourDeSpiker,
@@ -58,6 +59,8 @@ pub fn clean_into<P: ContourPoint>(
     ensures errors { IfErr result
         (λ e. (e ≡ Refusal.OutOfRange) ⊎ (e ≡ Refusal.NoRoom) ⊎ (e ≡ no_memory)) }
     ensures count { IfOk result (λ n. n ≤ length contour.now) }
+    ensures rest { IfOk result (λ n. drop n out.new ≡ drop n out.old) }
+    ensures err { OnErr result (out.new ≡ out.old) }
     ensures answer { IfOk result (λ n. SimpleAnswer (read P.Coordinate.value P.points contour.now)
         (slot (read P.Coordinate.value P.points (take n out.new)))) }
     ensures area { IfOk result (λ n. shoelace (read P.Coordinate.value P.points (take n out.new))
