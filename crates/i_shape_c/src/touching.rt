@@ -17,13 +17,13 @@ use crate::validity::{
 use i_shape_touching::{TouchingValidity, touching_validity_of};
 use std::alloc::{AllocError, Global};
 
-/// The kind of two edges that touch, where touches at lesser points join their contours already: `first` and `second`
-/// are the indices of the points from which they lead.
+/// The kind of two edges that touch, of contours already joined by touches at lesser points: `first` and `second` are
+/// the indices of the points from which the edges lead.
 const DISCONNECTED: usize = 5;
 
-/// Writes to the front of `out` the first fault of each polygon, whose contours may touch. Returns 0, or a code below 0.
-/// Memory is needed for a fault of each polygon, for a copy of the offsets of the one with the most contours, and for
-/// the contacts of one at a time.
+/// Writes the first fault of each polygon, if its contours may touch, to the front of `out`. Returns 0, or a code below
+/// 0. Memory is needed for a fault of each polygon, for a copy of the offsets of the one with the most contours, and,
+/// for one polygon at a time that has contacts, for these, for pieces of its edges, and for a number for each contour.
 pub fn find_touching_faults<P: CPoint>(
     alloc: Global,
     points: &[P],

@@ -17,9 +17,9 @@ use i_shape_core::number::IntNumber;
 use i_shape_core::point::ContourPoint;
 use std::alloc::{AllocError, Global};
 
-/// Returns the first two edges that close a circle of rings, at the least point at which any do, and there the first
-/// such contact, or `None` if none do. Edges that touch close a circle where touches at lesser points, by x and then by
-/// y, join their rings already, directly or through other rings. The only error is `AllocError`.
+/// Returns the first contact that closes a circle of rings, of those at the least point, or `None` if none does. It is
+/// one of two rings already joined, directly or through other rings, by touches at lesser points, by x and then by y.
+/// The only error is `AllocError`.
 pub(crate) fn first_circle<P: ContourPoint>(
     alloc: Global,
     points: &[P],

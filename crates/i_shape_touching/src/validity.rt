@@ -40,13 +40,14 @@ pub enum TouchingValidity {
 /// Two rings may touch at one point, as OGC's rules allow, but no ring may touch itself. Faults come in this order: the
 /// first ring that has fewer than three points or whose points are all equal; the first contact of two edges of one
 /// ring, or that cross or overlap; the first hole with a point of its edges outside the outer contour; the first hole
-/// with a point of its edges inside another, with the first such other; the first touch of two rings that touches at
-/// lesser points, by x and then by y, join already, directly or through other rings: at the least point, and there the
-/// first contact.
+/// with a point of its edges inside another, with the first such other; a touch of two rings already joined, directly
+/// or through other rings, by touches at lesser points, by x and then by y: of these touches those at the least point,
+/// and there the first.
 ///
 /// # Errors
 ///
-/// `AllocError`, if an allocation fails; never if no edges are in contact, or if a ring is degenerate.
+/// `AllocError`, if an allocation fails; never if no edges are in contact, or if a ring has fewer than three points or
+/// only equal ones.
 pub fn touching_validity_of<P: ContourPoint>(
     alloc: Global,
     points: &[P],
